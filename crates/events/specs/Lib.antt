@@ -1,0 +1,2 @@
+-- The words of document 01 on one event.
+pub mod Words

@@ -1,0 +1,6 @@
+-- Laws that every layer shares.
+pub mod Says
+pub mod Steps
+pub mod Closure
+pub mod Least
+pub mod Walks
