@@ -1,0 +1,36 @@
+-- Document 01's number and place of each refusal.
+use Prim.Native.Nat.{ℕ}
+use Rattle.refusals.specs.declared.Fault.{Fault}
+use Rattle.refusals.specs.declared.Fault.the-variants.{Mark, Kind, Rest, Range, Parent, Source, Twin}
+use Rattle.refusals.specs.declared.Refusal.{Refusal}
+use Rattle.refusals.specs.declared.Refusal.the-variants as refusal
+
+-- the rows 2 to 8 of the table of refusal numbers
+abbrev pub faultNumber : Fault → ℕ
+faultNumber Mark = 2
+faultNumber Kind = 3
+faultNumber Rest = 4
+faultNumber Range = 5
+faultNumber Parent = 6
+faultNumber Source = 7
+faultNumber Twin = 8
+
+-- all its rows
+abbrev pub numberOf : Refusal → ℕ
+numberOf refusal.Length = 1
+numberOf (refusal.Record f n) = faultNumber f
+numberOf refusal.Selection = 9
+numberOf (refusal.Incomplete n) = 10
+numberOf refusal.Room = 11
+numberOf refusal.Full = 12
+numberOf (refusal.Past n) = 13
+
+-- "Its place is the record number; for 1, 9, 11, 12 it is 0, for 10 the least such kept record, for 13 the number asked for."
+abbrev pub placeOf : Refusal → ℕ
+placeOf refusal.Length = 0
+placeOf (refusal.Record f n) = n
+placeOf refusal.Selection = 0
+placeOf (refusal.Incomplete n) = n
+placeOf refusal.Room = 0
+placeOf refusal.Full = 0
+placeOf (refusal.Past n) = n
