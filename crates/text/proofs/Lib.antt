@@ -1,0 +1,2 @@
+-- Laws of written text and of decimal numbers.
+pub mod Laws
