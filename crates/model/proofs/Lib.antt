@@ -1,0 +1,4 @@
+-- What is proved of the definitions.
+pub mod Symmetric
+pub mod CarriedCycle
+pub mod Renumber
