@@ -2,3 +2,5 @@
 pub mod Symmetric
 pub mod CarriedCycle
 pub mod Renumber
+pub mod Formed
+pub mod Renumbered

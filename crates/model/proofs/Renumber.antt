@@ -101,7 +101,7 @@ module _ (t′ t : Table) (f : ℕ → ℕ) (N : Renumbering t′ t f) where
       let l = link-back f (t′ .at b .parent) x (sym (ap (λ r. r .parent) (carried b)) ∙ h) in
       record { a = l .a; image = l .image; step = l .is }
 
-  source-along : (a b : ℕ) → Source p a b → Source t (f a) (f b)
+  pub source-along : (a b : ℕ) → Source p a b → Source t (f a) (f b)
   source-along a b h = record { reads = h .reads; is = ap (λ r. r .source) (carried b) ∙ ap (linkBy f) (h .is) }
 
   source-back : (x b : ℕ) → Source t x (f b) → Back f (Source p) (Source t) x b
@@ -109,7 +109,7 @@ module _ (t′ t : Table) (f : ℕ → ℕ) (N : Renumbering t′ t f) where
       let l = link-back f (t′ .at b .source) x (sym (ap (λ r. r .source) (carried b)) ∙ h .is) in
       record { a = l .a; image = l .image; step = record { reads = h .reads; is = l .is } }
 
-  no-source-back : (b : ℕ) → NoSource t (f b) → NoSource p b
+  pub no-source-back : (b : ℕ) → NoSource t (f b) → NoSource p b
   no-source-back b h = absent-back f (t′ .at b .source) (sym (ap (λ r. r .source) (carried b)) ∙ h)
 
   po-along : (a b : ℕ) → Po p a b → Po t (f a) (f b)
@@ -328,7 +328,7 @@ module _ (t′ t : Table) (f : ℕ → ℕ) (N : Renumbering t′ t f) where
         race = race;
       })))))
 
-  keeps-pulled : Keeps p t f
+  pub keeps-pulled : Keeps p t f
   keeps-pulled = record {
     same-po = λ a b. (po-along a b, po-between a b);
     same-hb = λ a b. (hb-along a b, hb-between a b);
