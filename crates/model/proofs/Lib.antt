@@ -4,3 +4,4 @@ pub mod CarriedCycle
 pub mod Renumber
 pub mod Formed
 pub mod Renumbered
+pub mod CutNumbers
