@@ -12,7 +12,7 @@ use Rattle.events.specs.Words.{isInit, isRead, isWrite, oneLocation}
 use Rattle.laws.specs.Steps.{Plus, one, more}
 use Rattle.laws.proofs.Says.{says-dec, says-T}
 use Rattle.laws.proofs.Closure.{tri}
-use Rattle.model.specs.Table.{Table, Inside, thread, Parent, Source, NoSource, IsInit}
+use Rattle.model.specs.Table.{Table, Ends, Inside, thread, Parent, Source, IsInit, Read}
 use Rattle.model.specs.Relations.{Po, AtOrAbove, equal, above}
 use Rattle.model.specs.WellFormed.{WellFormed, Root, EarlierWrite, no-root, no-parent, parent-not-earlier, other-thread, thread-stood, no-earlier-write}
 
@@ -39,6 +39,10 @@ po-earlier t h {a} {b} i (more {m = m} o e) =
     let l = h b m i e in
     let k = po-earlier t h (omega arith) o in
     omega arith
+
+-- nothing past the end reads
+pub read-inside : (t : Table) → Ends t → (n : ℕ) → Read t n → Inside t n
+read-inside t end n h = stable (decLt n (t .count)) (λ l. subst (λ r. T (isRead (r .event))) (end .past n (omega arith)) h)
 
 -- the Init of the thread of record n
 pub record InitOf (t : Table) (n : ℕ) : Type 0 where

@@ -5,3 +5,4 @@ pub mod Renumber
 pub mod Formed
 pub mod Renumbered
 pub mod CutNumbers
+pub mod Cutting
