@@ -1,36 +1,21 @@
 -- Cutting a table down invents no fault.
-use mathlib.Core.Path.{_≡_, refl, sym, ap, subst, subst₂, _∙_}
-use mathlib.Core.Bool.{Bool}
+use mathlib.Core.Path.{_≡_, sym, ap, subst, subst₂, _∙_}
+use mathlib.Core.Bool.{Bool, true}
 use Prim.Native.Nat.{ℕ, _<_}
 use native.Mathlib.Omega.{arith}
 use native.Mathlib.Decide.{decLt}
 use lib.Dec.{T}
-use Rattle.events.specs.declared.Link.{Link}
-use Rattle.events.specs.declared.Link.the-variants.{Absent, To}
-use Rattle.events.specs.declared.Record.{Record}
 use Rattle.laws.specs.Steps.{Rel}
-use Rattle.model.specs.Table.{Table, Inside, Parent, Source, Read}
+use Rattle.model.specs.Table.{Table, Inside, Parent, Source}
 use Rattle.model.specs.Relations.{Po, Hb, Conflict, Race, EarlierRace, SomeEarlierRace, StandsOnRace}
 use Rattle.model.specs.WellFormed.{WellFormed}
-use Rattle.model.specs.Cut.{linkBy, renumbered, newNumber, CutOf, Selection, SameFor, NoFaultInvented}
+use Rattle.model.specs.Cut.{renumbered, newNumber, CutOf, Complete, Selection, SameFor, NoFaultInvented}
 use Rattle.model.proofs.CutNumbers.{oldNumber, new-below, old-rises, old-rises-back, old-injective, old-inside, old-kept, old-new, new-old}
+use Rattle.model.proofs.Links.{record-back-again}
 use Rattle.model.proofs.Formed.{parent-earlier, source-read, source-earlier, read-inside}
-use Rattle.model.proofs.Renumber.{Renumbering, Alike, Keeps, keeps, parent-along}
+use Rattle.model.proofs.Renumber.{Renumbering, Alike}
+use Rattle.model.proofs.Carried.{RacesStay, Keeps, keeps}
 use Rattle.model.proofs.Renumbered.{LinksEarlier, well-formed-renumbered}
-
--- a record renumbered, and back again
-link-back-again : (f g : ℕ → ℕ) (l : Link) → ((n : ℕ) → l ≡ To n → f (g n) ≡ n) → l ≡ linkBy f (linkBy g l)
-link-back-again f g Absent h = refl
-link-back-again f g (To n) h = ap To (sym (h n refl))
-
-record-back-again :
-    (f g : ℕ → ℕ) (r : Record) → ((n : ℕ) → r .parent ≡ To n → f (g n) ≡ n) → ((n : ℕ) → r .source ≡ To n → f (g n) ≡ n) → r ≡ renumbered f (renumbered g r)
-record-back-again f g r parent source = λ j. record {
-  thread = r .thread;
-  parent = link-back-again f g (r .parent) parent j;
-  source = link-back-again f g (r .source) source j;
-  event = r .event;
-}
 
 -- each record of a cut
 pub cut-record :
@@ -50,15 +35,20 @@ module _ (k : ℕ → Bool) (t t′ : Table) (W : WellFormed t) (S : Selection k
   inside-new : (i : ℕ) → Inside t (f i) → Inside t′ i
   inside-new i l = omega (arith, C .count, old-inside k (t .count) i .1 l)
 
+  -- a record of the cut lacks nothing in the whole
+  complete : (i : ℕ) → Inside t (f i) → Complete k t (f i)
+  complete i l = S .complete (f i) l (old-kept k (t .count) i l)
+
+  there-and-back : {n : ℕ} → Inside t n → T (k n) → f (newNumber k n) ≡ n
+  there-and-back {n} = old-new k (t .count) n
+
   parent-back : (i n : ℕ) → Inside t (f i) → Parent t n (f i) → f (newNumber k n) ≡ n
-  parent-back i n l e =
-      let b = parent-earlier t W (f i) n l e in
-      old-new k (t .count) n (omega arith) (S .complete (f i) l (old-kept k (t .count) i l) .parent n e)
+  parent-back i n l e = let b = parent-earlier t W (f i) n l e in there-and-back (omega arith) (complete i l .parent n e)
 
   source-back : (i n : ℕ) → Inside t (f i) → Source t n (f i) → f (newNumber k n) ≡ n
   source-back i n l e =
       let b = source-earlier t W (f i) n l e .earlier in
-      old-new k (t .count) n (omega arith) (S .complete (f i) l (old-kept k (t .count) i l) .source n e)
+      there-and-back (omega arith) (complete i l .source n e)
 
   carried : (i : ℕ) → t .at (f i) ≡ renumbered f (t′ .at i)
   carried i = go (decLt i (t′ .count))
@@ -84,8 +74,8 @@ module _ (k : ℕ → Bool) (t t′ : Table) (W : WellFormed t) (S : Selection k
 
   links-earlier : LinksEarlier t′
   links-earlier = record {
-    parent = λ n p l e. old-rises-back k (t .count) p n (parent-earlier t W (f n) (f p) (inside-old n l) (parent-along t′ t f renumbering p n e));
-    source = λ n s l e. old-rises-back k (t .count) s n (source-earlier t W (f n) (f s) (inside-old n l) (kept .source s n e) .earlier);
+    parent = λ n p l e. old-rises-back k (t .count) p n (parent-earlier t W (f n) (f p) (inside-old n l) (kept .related .parent-along p n e));
+    source = λ n s l e. old-rises-back k (t .count) s n (source-earlier t W (f n) (f s) (inside-old n l) (kept .related .source-along s n e) .earlier);
   }
 
   some-record : 0 < t′ .count
@@ -94,29 +84,32 @@ module _ (k : ℕ → Bool) (t t′ : Table) (W : WellFormed t) (S : Selection k
       omega (arith, C .count, new-below k n (t .count) l h)
 
   -- one of the writes that a read stands on is kept
-  race-stays : (r : ℕ) → StandsOnRace t (f r) → SomeEarlierRace t′ r
-  race-stays r s =
+  some-race : (r : ℕ) → StandsOnRace t (f r) → SomeEarlierRace t′ r
+  some-race r s =
       let l = read-inside t (W .ends) (f r) (s .reads) in
-      let (w, (h, race)) = S .complete (f r) l (old-kept k (t .count) r l) .racing-write s in
+      let (w, (h, race)) = complete r l .racing-write s in
       let b = race .earlier in
-      let e = old-new k (t .count) w (omega arith) h in
+      let e = there-and-back (omega arith) h in
       (newNumber k w, kept .earlier-race-back (newNumber k w) r (old-rises-back k (t .count) (newNumber k w) r (omega arith)) (subst (λ (x : ℕ). EarlierRace t x (f r)) (sym e) race))
+
+  races-stay : RacesStay t′ t f
+  races-stay = record { still-earlier = λ w r reads race. old-rises k (t .count) w r (race .earlier); some-race = some-race }
 
   same-for : (R R′ : Rel) → Alike f R′ R → SameFor k t R R′
   same-for R R′ alike m n l h l′ h′ =
-      let e = old-new k (t .count) m l h in
-      let e′ = old-new k (t .count) n l′ h′ in
+      let e = there-and-back l h in
+      let e′ = there-and-back l′ h′ in
       let x = alike (newNumber k m) (newNumber k n) in
       (λ r. x .1 (subst₂ R (sym e) (sym e′) r), λ r. subst₂ R e e′ (x .0 r))
 
   no-fault : NoFaultInvented k t t′
   no-fault = record {
     well-formed = well-formed-renumbered t′ t f renumbering W some-record links-earlier;
-    same-po = same-for (Po t) (Po t′) (kept .same-po);
-    same-hb = same-for (Hb t) (Hb t′) (kept .same-hb);
-    same-conflict = same-for (Conflict t) (Conflict t′) (kept .same-conflict);
-    same-race = same-for (Race t) (Race t′) (kept .same-race);
-    no-R = λ none h. none (kept .R (λ w r reads race. old-rises k (t .count) w r (race .earlier)) race-stays h);
+    same-po = same-for (Po t) (Po t′) (kept .related .same-po);
+    same-hb = same-for (Hb t) (Hb t′) (kept .related .same-hb);
+    same-conflict = same-for (Conflict t) (Conflict t′) (kept .related .same-conflict);
+    same-race = same-for (Race t) (Race t′) (kept .related .same-race);
+    no-R = λ none h. none (kept .R races-stay h);
     no-A1 = λ none h. none (kept .A1 h);
     no-A2 = λ none h. none (kept .A2 h);
     no-A3 = λ none h. none (kept .A3 h);
@@ -128,3 +121,14 @@ module _ (k : ℕ → Bool) (t t′ : Table) (W : WellFormed t) (S : Selection k
 pub cut-invents-no-fault :
     (k : ℕ → Bool) (t t′ : Table) → WellFormed t → Selection k t → CutOf k t t′ → NoFaultInvented k t t′
 cut-invents-no-fault k t t′ W S C = no-fault k t t′ W S C
+
+-- the premises can be met: all of a well-formed table may be kept
+pub keep-all : (t : Table) → WellFormed t → Selection (λ n. true) t
+keep-all t W = record {
+  some-kept = (0, (W .some-record, tt));
+  complete = λ n l h. record {
+    parent = λ p e. tt;
+    source = λ s e. tt;
+    racing-write = λ s. (s .race .0, (tt, s .race .1));
+  };
+}

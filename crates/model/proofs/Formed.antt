@@ -1,5 +1,6 @@
 -- What the records of a well-formed table have, from the refusals that are not given.
 use mathlib.Core.Path.{_≡_, refl, sym, subst, _∙_}
+use mathlib.Core.Logic.{Dec·not-not}
 use mathlib.Core.Bool.{Bool}
 use Prim.Native.Nat.{ℕ, zero, suc, _<_}
 use native.Mathlib.Omega.{arith}
@@ -9,27 +10,20 @@ use lib.Dec.{T}
 use Rattle.events.specs.declared.Link.{Link}
 use Rattle.events.specs.declared.Link.the-variants.{Absent, To}
 use Rattle.events.specs.Words.{isInit, isRead, isWrite, oneLocation}
-use Rattle.laws.specs.Steps.{Plus, one, more}
+use Rattle.laws.specs.Steps.{one, more}
 use Rattle.laws.proofs.Says.{says-dec, says-T}
 use Rattle.laws.proofs.Closure.{tri}
 use Rattle.model.specs.Table.{Table, Ends, Inside, thread, Parent, Source, IsInit, Read}
 use Rattle.model.specs.Relations.{Po, AtOrAbove, equal, above}
 use Rattle.model.specs.WellFormed.{WellFormed, Root, EarlierWrite, no-root, no-parent, parent-not-earlier, other-thread, thread-stood, no-earlier-write}
+use Rattle.model.proofs.Links.{absent-not-to, absent-dec}
 
 -- what can be decided, and is not refuted, holds
 stable : {P : Type 0} → Dec P → ¬ ¬ P → P
-stable (yes p) h = p
-stable (no n) h = absurd (h n)
+stable d = Dec·not-not d .0
 
 T-dec : (b : Bool) → Dec (T b)
 T-dec b = says-dec (says-T b)
-
-pub absent-not-to : {p : ℕ} → ¬ (Absent ≡ To p)
-absent-not-to e = let z : _≡_ {A = ℕ} 0 1 = cc in omega arith
-
-absent-dec : (l : Link) → Dec (l ≡ Absent)
-absent-dec Absent = yes refl
-absent-dec (To p) = no (λ e. absent-not-to (sym e))
 
 -- where parents are earlier, so is everything above
 pub po-earlier :

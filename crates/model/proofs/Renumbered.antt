@@ -1,21 +1,21 @@
 -- A renumbering of records of a well-formed table is well-formed, if parents and sources stay earlier.
 use mathlib.Core.Path.{_≡_, refl, sym, ap, subst, _∙_}
-use mathlib.Core.Logic.{_↔_}
-use Prim.Native.Nat.{ℕ, zero, _<_, _≤_}
+use Prim.Native.Nat.{ℕ, _<_, _≤_}
 use native.Mathlib.Omega.{arith}
 use native.Mathlib.Nat.{not-suc-le-zero}
 use native.Mathlib.Decide.{ℕ-discrete}
 use Rattle.events.specs.declared.Link.{Link}
 use Rattle.events.specs.declared.Link.the-variants.{Absent, To}
 use Rattle.laws.proofs.Closure.{tri}
-use Rattle.model.specs.Table.{Table, inert, Ends, Inside, thread, Parent, Source, NoSource, IsInit, Read}
+use Rattle.model.specs.Table.{Table, inert, Inside, thread, Parent, Source, IsInit}
 use Rattle.model.specs.Relations.{Po, AtOrAbove, equal, above}
 use Rattle.model.specs.WellFormed.{WellFormed, Sound, Root, Refused6, no-root, no-parent, parent-not-earlier, other-thread, thread-stood}
-use Rattle.model.specs.WellFormed.{EarlierWrite, Refused7, no-earlier-write, other-value, known-from-u, known-from-nothing, TwoReads, Refused8, twin}
+use Rattle.model.specs.WellFormed.{Refused7, no-earlier-write, other-value, known-from-u, known-from-nothing, TwoReads, Refused8, twin}
 use Rattle.model.specs.Cut.{linkBy}
 use Rattle.model.proofs.Symmetric.{one-location-sym}
 use Rattle.model.proofs.Formed.{root, po-earlier, one-init, init-of}
-use Rattle.model.proofs.Renumber.{Renumbering, Keeps, keeps-pulled, pulled, pulled-is, parent-along, source-along, no-source-back, absent-back}
+use Rattle.model.proofs.Renumber.{Renumbering, Related, pulled, pulled-is, related-pulled}
+use Rattle.model.proofs.Links.{absent-back}
 
 -- "each record's parent and source stand earlier"
 pub record LinksEarlier (t : Table) : Type 0 where
@@ -33,6 +33,7 @@ two-reads-sym t {m} {n} h = record {
 
 module _ (t′ t : Table) (f : ℕ → ℕ) (N : Renumbering t′ t f) (W : WellFormed t) (some : 0 < t′ .count) (L : LinksEarlier (pulled t′ t f)) where
   open Renumbering N using (injective, inside, carried)
+  open Related (related-pulled t′ t f N) using (same-po, parent-along, source-along, no-source-back)
 
   abbrev p : Table
   p = pulled t′ t f
@@ -77,21 +78,21 @@ module _ (t′ t : Table) (f : ℕ → ℕ) (N : Renumbering t′ t f) (W : Well
       on : {y : ℕ} → AtOrAbove t (f n) y → y ≡ f m → ⊥
       on (equal k) q = let z = injective n m q in omega arith
       on (above o) q =
-          let k = po-earlier p (L .parent) (omega arith) (keeps-pulled t′ t f N .same-po n m .1 (subst (Po t (f n)) q o)) in
+          let k = po-earlier p (L .parent) (omega arith) (same-po n m .1 (subst (Po t (f n)) q o)) in
           omega arith
 
   not-6 : (n : ℕ) → Inside p n → ¬ Refused6 p n
   not-6 n i (no-root z h) = h (subst (Root p) (sym z) root-0)
   not-6 n i (no-parent z e) = sound n i .not-6 (no-parent (not-first z) (parent-is n ∙ ap (linkBy f) e))
   not-6 n i (parent-not-earlier {p = q} z e l) = let k = L .parent n q i e in omega arith
-  not-6 n i (other-thread {p = q} z h e d) = sound n i .not-6 (other-thread (not-first z) h (parent-along t′ t f N q n e) d)
+  not-6 n i (other-thread {p = q} z h e d) = sound n i .not-6 (other-thread (not-first z) h (parent-along q n e) d)
   not-6 n i (thread-stood x l e) = init-first i x l e
 
   not-7 : (n : ℕ) → Inside p n → ¬ Refused7 p n
   not-7 n i (no-earlier-write {s = s} e h) =
-      sound n i .not-7 (no-earlier-write (source-along t′ t f N s n e) (λ w. h (record { earlier = L .source n s i e; write = w .write; one-location = w .one-location })))
-  not-7 n i (other-value {s = s} e w v d) = sound n i .not-7 (other-value (source-along t′ t f N s n e) w v d)
-  not-7 n i (known-from-u {s = s} e w v) = sound n i .not-7 (known-from-u (source-along t′ t f N s n e) w v)
+      sound n i .not-7 (no-earlier-write (source-along s n e) (λ w. h (record { earlier = L .source n s i e; write = w .write; one-location = w .one-location })))
+  not-7 n i (other-value {s = s} e w v d) = sound n i .not-7 (other-value (source-along s n e) w v d)
+  not-7 n i (known-from-u {s = s} e w v) = sound n i .not-7 (known-from-u (source-along s n e) w v)
   not-7 n i (known-from-nothing e v) =
       sound n i .not-7 (known-from-nothing (ap (λ r. r .source) (carried n) ∙ ap (linkBy f) e) v)
 
@@ -114,7 +115,7 @@ module _ (t′ t : Table) (f : ℕ → ℕ) (N : Renumbering t′ t f) (W : Well
       λ j. record {
         thread = e j .thread;
         parent = absent-back f (t′ .at n .parent) (sym (parent-is n) ∙ ap (λ r. r .parent) e) j;
-        source = no-source-back t′ t f N n (ap (λ r. r .source) e) j;
+        source = no-source-back n (ap (λ r. r .source) e) j;
         event = e j .event;
       }
 
@@ -125,7 +126,7 @@ module _ (t′ t : Table) (f : ℕ → ℕ) (N : Renumbering t′ t f) (W : Well
       not-6 = not-6 n i;
       not-7 = not-7 n i;
       not-8 = not-8 n i;
-      only-reads = λ h. no-source-back t′ t f N n (sound n i .only-reads h);
+      only-reads = λ h. no-source-back n (sound n i .only-reads h);
     };
     ends = record { past = ends };
   }

@@ -1,6 +1,6 @@
 -- One location, conflict and race are symmetric.
-use mathlib.Core.Path.{_≡_, sym, subst}
-use mathlib.Core.Logic.{_⊎_, inl, inr}
+use mathlib.Core.Path.{sym, subst}
+use mathlib.Core.Logic.{⊎-swap}
 use mathlib.Core.Option.{Option, none, some}
 use Prim.Native.Nat.{ℕ}
 use lib.Dec.{T, eqb, eqb→eq, eqb-refl}
@@ -8,10 +8,6 @@ use Rattle.events.specs.declared.Event.{Event}
 use Rattle.events.specs.Words.{sameLocation, oneLocation, locationOf}
 use Rattle.model.specs.Table.{Table}
 use Rattle.model.specs.Relations.{Apart, Conflict, Race}
-
-swapped : {A B : Type 0} → A ⊎ B → B ⊎ A
-swapped (inl a) = inr a
-swapped (inr b) = inl b
 
 same-location-sym : (x y : Option ℕ) → T (sameLocation x y) → T (sameLocation y x)
 same-location-sym none none h = h
@@ -44,8 +40,8 @@ module _ (t : Table) where
   race-sym {a} {b} x = record {
     differ = λ e. x .differ (sym e);
     one-location = one-location-sym (t .at a .event) (t .at b .event) (x .one-location);
-    a-write = swapped (x .a-write);
-    a-NA = swapped (x .a-NA);
+    a-write = ⊎-swap (x .a-write);
+    a-NA = ⊎-swap (x .a-NA);
     not-before = x .not-after;
     not-after = x .not-before;
     no-conflict = λ c. x .no-conflict (conflict-sym c);
