@@ -39,16 +39,16 @@ module _ (k : ℕ → Bool) (t t′ : Table) (W : WellFormed t) (S : Selection k
   complete : (i : ℕ) → Inside t (f i) → Complete k t (f i)
   complete i l = S .complete (f i) l (old-kept k (t .count) i l)
 
-  there-and-back : {n : ℕ} → Inside t n → T (k n) → f (newNumber k n) ≡ n
-  there-and-back {n} = old-new k (t .count) n
+  there-and-back : (n : ℕ) → Inside t n → T (k n) → f (newNumber k n) ≡ n
+  there-and-back n = old-new k (t .count) n
 
   parent-back : (i n : ℕ) → Inside t (f i) → Parent t n (f i) → f (newNumber k n) ≡ n
-  parent-back i n l e = let b = parent-earlier t W (f i) n l e in there-and-back (omega arith) (complete i l .parent n e)
+  parent-back i n l e = let b = parent-earlier t W (f i) n l e in there-and-back n (omega arith) (complete i l .parent n e)
 
   source-back : (i n : ℕ) → Inside t (f i) → Source t n (f i) → f (newNumber k n) ≡ n
   source-back i n l e =
       let b = source-earlier t W (f i) n l e .earlier in
-      there-and-back (omega arith) (complete i l .source n e)
+      there-and-back n (omega arith) (complete i l .source n e)
 
   carried : (i : ℕ) → t .at (f i) ≡ renumbered f (t′ .at i)
   carried i = go (decLt i (t′ .count))
@@ -89,7 +89,7 @@ module _ (k : ℕ → Bool) (t t′ : Table) (W : WellFormed t) (S : Selection k
       let l = read-inside t (W .ends) (f r) (s .reads) in
       let (w, (h, race)) = complete r l .racing-write s in
       let b = race .earlier in
-      let e = there-and-back (omega arith) h in
+      let e = there-and-back w (omega arith) h in
       (newNumber k w, kept .earlier-race-back (newNumber k w) r (old-rises-back k (t .count) (newNumber k w) r (omega arith)) (subst (λ (x : ℕ). EarlierRace t x (f r)) (sym e) race))
 
   races-stay : RacesStay t′ t f
@@ -97,8 +97,8 @@ module _ (k : ℕ → Bool) (t t′ : Table) (W : WellFormed t) (S : Selection k
 
   same-for : (R R′ : Rel) → Alike f R′ R → SameFor k t R R′
   same-for R R′ alike m n l h l′ h′ =
-      let e = there-and-back l h in
-      let e′ = there-and-back l′ h′ in
+      let e = there-and-back m l h in
+      let e′ = there-and-back n l′ h′ in
       let x = alike (newNumber k m) (newNumber k n) in
       (λ r. x .1 (subst₂ R (sym e) (sym e′) r), λ r. subst₂ R e e′ (x .0 r))
 
