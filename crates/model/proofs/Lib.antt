@@ -1,2 +1,4 @@
 -- What is proved of the definitions.
 pub mod Unique
+pub mod Fields
+pub mod Refusals
