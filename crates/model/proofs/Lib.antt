@@ -2,3 +2,6 @@
 pub mod Unique
 pub mod Fields
 pub mod Refusals
+pub mod Facts
+pub mod Within
+pub mod Laws

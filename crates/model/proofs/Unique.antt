@@ -14,6 +14,6 @@ one-report t x y p q =
     let A4 = cycle-unique (p .A4) (q .A4) in
     let W = pair-unique (ShowsW t) (p .W) (q .W) in
     let same : verdictOf x ≡ verdictOf y =
-        λ i. verdictOf (record { R = R i; A1 = A1 i; A2 = A2 i; A3 = A3 i; A4 = A4 i; W = W i; verdict = x .verdict }) in
+    λ i. verdictOf (record { R = R i; A1 = A1 i; A2 = A2 i; A3 = A3 i; A4 = A4 i; W = W i; verdict = x .verdict }) in
     let verdict : x .verdict ≡ y .verdict = p .verdict ∙ (same ∙ sym (q .verdict)) in
     λ i. record { R = R i; A1 = A1 i; A2 = A2 i; A3 = A3 i; A4 = A4 i; W = W i; verdict = verdict i }
