@@ -65,12 +65,12 @@ linkThat Absent f = false
 linkThat (To n) f = f n
 
 pub says-link-that :
-    (l : Link) {f : ℕ → Bool} {P : ℕ → Type 0} → ((n : ℕ) → Says (f n) (P n)) → Says (linkThat l f) ((n : ℕ) × ((l ≡ To n) × P n))
+    (l : Link) {f : ℕ → Bool} {P : ℕ → Type 0} → ((n : ℕ) → l ≡ To n → Says (f n) (P n)) → Says (linkThat l f) ((n : ℕ) × ((l ≡ To n) × P n))
 says-link-that Absent s = says-no λ (n, (e, p)).
     let z : _≡_ {A = ℕ} 0 1 = cc in
     omega arith
 says-link-that (To m) {P = P} s =
-    says-iff (λ p. (m, (refl, p))) (λ (n, (e, p)). let q : n ≡ m = cc in subst P q p) (s m)
+    says-iff (λ p. (m, (refl, p))) (λ (n, (e, p)). let q : n ≡ m = cc in subst P q p) (s m refl)
 
 -- the value is known, and its number passes
 abbrev pub knownThat : Option Value → (ℕ → Bool) → Bool

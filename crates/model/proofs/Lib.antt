@@ -5,3 +5,6 @@ pub mod Refusals
 pub mod Facts
 pub mod Within
 pub mod Laws
+pub mod Rows
+pub mod Search
+pub mod Cycles

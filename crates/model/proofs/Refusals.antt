@@ -13,7 +13,7 @@ use Rattle.events.specs.declared.Link.the-variants.{Absent, To}
 use Rattle.events.specs.declared.Record.{Record}
 use Rattle.events.specs.Words.{isInit, isRead, isWrite, oneLocation, readOf, writtenOf}
 use Rattle.laws.specs.Says.{Says, anyBelow}
-use Rattle.laws.proofs.Says.{says-T, says-eq, says-lt, says-le, says-not, says-and, says-or, says-if, says-iff, says-any-below, says-all, says-yes}
+use Rattle.laws.proofs.Says.{says-T, says-eq, says-lt, says-le, says-not, says-and, says-and-then, says-or, says-if, says-iff, says-any-below, says-all, says-yes}
 use Rattle.model.specs.Table.{Table, Ends, inert, listed, thread, Source}
 use Rattle.model.specs.WellFormed.{Root, Refused6, no-root, no-parent, parent-not-earlier, other-thread, thread-stood, EarlierWrite, Refused7, no-earlier-write, other-value, known-from-u, known-from-nothing, TwoReads, Refused8, twin, Sound, WellFormed}
 use Rattle.model.proofs.Fields.{sameLink, says-link, sameValue, says-value, linkThat, says-link-that, knownThat, says-known-that}
@@ -64,8 +64,8 @@ module _ (t : Table) where
       ])
       (says-or (says-and (says-eq n 0) (says-not (says-root n)))
       (says-or (says-and later (says-link parent Absent))
-      (says-or (says-and later (says-link-that parent (λ p. says-le n p)))
-      (says-or (says-and later (says-and (says-not init) (says-link-that parent (λ p. says-not (says-eq (thread t n) (thread t p))))))
+      (says-or (says-and later (says-link-that parent (λ p e. says-le n p)))
+      (says-or (says-and later (says-and (says-not init) (says-link-that parent (λ p e. says-not (says-eq (thread t n) (thread t p))))))
       (says-and init (says-any-below (λ m l. says-eq (thread t m) (thread t n))))))))
 
   abbrev earlierWrite? : ℕ → ℕ → Bool
@@ -81,10 +81,10 @@ module _ (t : Table) where
   sourceThat n f = reads? n && linkThat (t .at n .source) f
 
   pub says-source-that :
-      (n : ℕ) {f : ℕ → Bool} {P : ℕ → Type 0} → ((s : ℕ) → Says (f s) (P s)) → Says (sourceThat n f) ((s : ℕ) × (Source t s n × P s))
+      (n : ℕ) {f : ℕ → Bool} {P : ℕ → Type 0} → ((s : ℕ) → Source t s n → Says (f s) (P s)) → Says (sourceThat n f) ((s : ℕ) × (Source t s n × P s))
   says-source-that n x =
       says-iff (λ (r, (s, (e, p))). (s, (record { reads = r; is = e }, p))) (λ (s, (c, p)). (c .reads, (s, (c .is, p))))
-      (says-and (says-T (reads? n)) (says-link-that (t .at n .source) x))
+      (says-and-then (says-T (reads? n)) (λ r. says-link-that (t .at n .source) (λ s e. x s (record { reads = r; is = e }))))
 
   abbrev readsKnown : ℕ → (ℕ → Bool) → Bool
   readsKnown n = knownThat (readOf (t .at n .event))
@@ -112,9 +112,9 @@ module _ (t : Table) where
         | known-from-u {s} {v} c a b ↦ inr (inr (inl (s, (c, (a, (v, (b, tt)))))))
         | known-from-nothing {v} e b ↦ inr (inr (inr (e, (v, (b, tt)))))
       ])
-      (says-or (says-source-that n (λ s. says-not (says-earlier-write s n)))
-      (says-or (says-source-that n (λ s. says-known-that (writtenOf (t .at s .event)) (λ w. says-known-that value (λ v. says-not (says-eq w v)))))
-      (says-or (says-source-that n (λ s. says-and (says-value (writtenOf (t .at s .event)) (some U)) (says-known-that value (λ v. says-T true))))
+      (says-or (says-source-that n (λ s c. says-not (says-earlier-write s n)))
+      (says-or (says-source-that n (λ s c. says-known-that (writtenOf (t .at s .event)) (λ w. says-known-that value (λ v. says-not (says-eq w v)))))
+      (says-or (says-source-that n (λ s c. says-and (says-value (writtenOf (t .at s .event)) (some U)) (says-known-that value (λ v. says-T true))))
       (says-and (says-link (t .at n .source) Absent) (says-known-that value (λ v. says-T true))))))
 
   abbrev twoReads? : ℕ → ℕ → Bool
