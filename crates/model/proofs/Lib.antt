@@ -8,3 +8,7 @@ pub mod Laws
 pub mod Rows
 pub mod Search
 pub mod Cycles
+pub mod Mirror
+pub mod MirrorTells
+pub mod MirrorReport
+pub mod Worked

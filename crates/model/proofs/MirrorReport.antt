@@ -1,0 +1,47 @@
+-- The mirror's report of a well-formed table is the one that the definitions ask for.
+use mathlib.Core.Path.{refl}
+use Rattle.laws.proofs.Steps.{Within}
+use Rattle.model.specs.Table.{Table}
+use Rattle.model.specs.WellFormed.{WellFormed}
+use Rattle.model.specs.Findings.{ShowsA2, ShowsA3, ShowsW, Reports}
+use Rattle.model.proofs.Facts.{read-inside}
+use Rattle.model.proofs.Within.{hb-within, race-within, wb0-within, sc-step-within}
+use Rattle.model.proofs.Rows.{rows, look, plus, plus-tells}
+use Rattle.model.proofs.Search.{first-least, first-pair-least}
+use Rattle.model.proofs.Cycles.{cycle-least}
+use Rattle.model.proofs.Mirror.{po-rows, conflict?, poOrSw?, race?, wb0?, mirrorReport}
+use Rattle.model.proofs.MirrorTells.{po-tells, conflict-tells, hb-tells, race-tells, A2-tells, A3-tells, wb0-tells, says-R, W-tells, sc-tells}
+
+module _ {t : Table} (ok : WellFormed t) where
+  A2-within : Within (t .count) (ShowsA2 t)
+  A2-within = record { left = λ f. hb-within ok .left (f .before); right = λ f. hb-within ok .right (f .before) }
+
+  A3-within : Within (t .count) (ShowsA3 t)
+  A3-within = record { left = λ f. hb-within ok .left (f .before); right = λ f. hb-within ok .right (f .before) }
+
+  W-within : Within (t .count) (ShowsW t)
+  W-within = record { left = λ f. race-within ok .left (f .race); right = λ f. race-within ok .right (f .race) }
+
+pub reports : (t : Table) → WellFormed t → Reports t (mirrorReport t)
+unfolding mirrorReport
+reports t ok =
+    let n = t .count in
+    let po = po-rows t in
+    let cf = rows n (conflict? t po) in
+    let hb = plus n (poOrSw? t po) in
+    let race = rows n (race? t cf hb) in
+    let wb = plus n (look (rows n (wb0? t hb))) in
+    let po-ok = po-tells ok in
+    let cf-ok = conflict-tells ok po po-ok in
+    let hb-ok = hb-tells ok po po-ok in
+    let race-ok = race-tells ok cf hb cf-ok hb-ok in
+    let wb0-ok = wb0-tells ok hb hb-ok in
+    record {
+      R = first-least n (λ r c. read-inside ok r (c .reads)) (says-R ok hb hb-ok race race-ok);
+      A1 = cycle-least wb0-ok (wb0-within ok);
+      A2 = first-pair-least (A2-tells ok cf hb cf-ok hb-ok) (A2-within ok);
+      A3 = first-pair-least (A3-tells ok cf hb cf-ok hb-ok) (A3-within ok);
+      A4 = cycle-least (sc-tells ok po hb wb po-ok hb-ok (plus-tells wb0-ok (wb0-within ok))) (sc-step-within ok);
+      W = first-pair-least (W-tells ok hb hb-ok race race-ok) (W-within ok);
+      verdict = refl;
+    }
