@@ -1,5 +1,5 @@
 -- The search for the least cycle of a relation kept as rows: walks of one step, of two, and so on, until one is closed.
-use mathlib.Core.Path.{_≡_, refl, sym, subst, ap}
+use mathlib.Core.Path.{_≡_, refl, subst, ap}
 use mathlib.Core.Bool.{Bool, true, false, _&&_}
 use mathlib.Core.Option.{Option, none, some}
 use mathlib.Core.List.{List, [], _∷_}
@@ -9,7 +9,7 @@ use native.Mathlib.Omega.{arith}
 use native.Mathlib.Decide.{ℕ-discrete}
 use lib.Dec.{T}
 use lib.ListN.{length}
-use Rattle.laws.specs.Says.{Says, anyBelow}
+use Rattle.laws.specs.Says.{anyBelow}
 use Rattle.laws.specs.Steps.{Walk, IsCycle}
 use Rattle.laws.specs.Least.{Least, LeastNumber, LeastCycle}
 use Rattle.laws.specs.Tails.{LeastTail}

@@ -1,9 +1,8 @@
 -- What a well-formed table has, record by record: refusals 6, 7 and 8 the other way round.
 use mathlib.Core.Path.{_≡_, refl, sym, subst}
 use mathlib.Core.Logic.{_⊎_, inl, inr}
-use mathlib.Core.Bool.{Bool, true, false}
 use mathlib.Core.Option.{Option, none, some}
-use Prim.Native.Nat.{ℕ, zero, suc, _<_, _≤_}
+use Prim.Native.Nat.{ℕ, _<_}
 use native.Mathlib.Omega.{arith}
 use native.Mathlib.Decide.{ℕ-discrete, decLt}
 use lib.Dec.{T, eqb-refl}
@@ -13,10 +12,10 @@ use Rattle.events.specs.declared.Link.the-variants.{Absent, To}
 use Rattle.events.specs.declared.Event.{Event}
 use Rattle.events.specs.declared.Event.the-variants.{Init, Load, Store, Update}
 use Rattle.events.specs.declared.Record.{Record}
-use Rattle.events.specs.Words.{isRead, isWrite, isSC, orderOf, acquires, releases, sameLocation, locationOf, oneLocation}
+use Rattle.events.specs.Words.{isRead, isWrite, isSC, orderOf, sameLocation, locationOf, oneLocation}
 use Rattle.laws.proofs.Says.{says-dec, says-T, says-eq}
-use Rattle.model.specs.Table.{Table, inert, Inside, thread, IsInit, Read, Parent, Source, NoSource, Write, SC, Acquiring, Releasing, OneLocation}
-use Rattle.model.specs.WellFormed.{ReadsValue, WritesValue, Root, Refused6, no-root, no-parent, parent-not-earlier, other-thread, thread-stood, EarlierWrite, Refused7, no-earlier-write, other-value, known-from-u, known-from-nothing, TwoReads, Refused8, twin, Sound, WellFormed}
+use Rattle.model.specs.Table.{Table, inert, Inside, thread, IsInit, Read, Parent, Source, NoSource, Write, SC, OneLocation}
+use Rattle.model.specs.WellFormed.{ReadsValue, WritesValue, Root, no-root, no-parent, parent-not-earlier, other-thread, thread-stood, EarlierWrite, no-earlier-write, other-value, known-from-u, known-from-nothing, TwoReads, twin, WellFormed}
 use Rattle.model.proofs.Refusals.{says-root, says-earlier-write, says-two-reads}
 
 -- what is not false is true, where it can be told
@@ -24,7 +23,7 @@ by-dec : {P : Type 0} → Dec P → ¬ ¬ P → P
 by-dec (yes p) n = p
 by-dec (no p) n = absurd (n p)
 
-absent-to : {l : Link} {n : ℕ} → l ≡ Absent → l ≡ To n → ⊥
+pub absent-to : {l : Link} {n : ℕ} → l ≡ Absent → l ≡ To n → ⊥
 absent-to e f =
     let z : _≡_ {A = ℕ} 0 1 = cc in
     omega arith

@@ -2,7 +2,7 @@
 use mathlib.Core.Path.{_≡_, refl, sym, subst}
 use mathlib.Core.Logic.{_⊎_, inl, inr, _↔_}
 use Prim.Native.Nat.{ℕ}
-use Rattle.laws.specs.Steps.{Plus, one, more}
+use Rattle.laws.specs.Steps.{one, more}
 use Rattle.laws.proofs.Steps.{plus-trans}
 use Rattle.model.specs.Table.{Table, Inside, Parent, Source, Write, OneLocation}
 use Rattle.model.specs.Relations.{Po, AtOrAbove, equal, above, Apart, Conflict, Sw, PoOrSw, by-po, by-sw, Hb, Race, WriteOrReader, the-write, a-reader, Wb0}

@@ -12,3 +12,4 @@ pub mod Mirror
 pub mod MirrorTells
 pub mod MirrorReport
 pub mod Worked
+pub mod WrongJudges

@@ -1,6 +1,6 @@
 -- The definitions' computed mirror: each relation and finding as a test over record numbers, and the report by search. Nobody has to
 -- believe it: MirrorTells proves that each test tells its definition.
-use mathlib.Core.Bool.{Bool, true, false, not, _&&_, _||_}
+use mathlib.Core.Bool.{Bool, not, _&&_, _||_}
 use mathlib.Core.Option.{Option}
 use mathlib.Core.List.{List}
 use Prim.Native.Nat.{ℕ}
@@ -10,7 +10,7 @@ use Rattle.events.specs.Words.{isRead, isWrite, isNA, isSC, orderOf, acquires, 
 use Rattle.laws.specs.Says.{anyBelow}
 use Rattle.laws.specs.Least.{Pair}
 use Rattle.model.specs.Table.{Table, thread}
-use Rattle.model.specs.Findings.{Report, found, verdictBy}
+use Rattle.model.specs.Findings.{Report, consistent, verdictOf}
 use Rattle.model.proofs.Fields.{sameLink}
 use Rattle.model.proofs.Refusals.{sourceThat}
 use Rattle.model.proofs.Rows.{Rows, rows, look, plus}
@@ -63,15 +63,27 @@ module _ (t : Table) where
   conflict? po a b =
       anyBelow (λ x. atOrAbove? po x a && anyBelow (λ y. atOrAbove? po y b && apart? po x y) (t .count)) (t .count)
 
+  abbrev pub conflict-rows : Rows
+  conflict-rows = let po = po-rows in rows (t .count) (conflict? po)
+
   abbrev pub sw? : ℕ → ℕ → Bool
   sw? s r = source? s r && (releasing? s && acquiring? r)
 
   abbrev pub poOrSw? : Rows → ℕ → ℕ → Bool
   poOrSw? po a b = look po a b || sw? a b
 
+  abbrev pub hb-rows : Rows
+  hb-rows = let po = po-rows in plus (t .count) (poOrSw? po)
+
   abbrev pub race? : Rows → Rows → ℕ → ℕ → Bool
   race? cf hb a b =
       not (eqb a b) && (oneLocation? a b && ((write? a || write? b) && ((na? a || na? b) && (not (look hb a b) && (not (look hb b a) && not (look cf a b))))))
+
+  abbrev pub race-rows : Rows
+  race-rows =
+      let cf = conflict-rows in
+      let hb = hb-rows in
+      rows (t .count) (race? cf hb)
 
   abbrev pub writeOrReader? : ℕ → ℕ → Bool
   writeOrReader? w x = eqb w x || source? w x
@@ -121,9 +133,10 @@ module _ (t : Table) where
   abbrev pub showsW? : Rows → ℕ → ℕ → Bool
   showsW? race p q = ltb p q && (write? p && (write? q && look race p q))
 
-  abbrev reportOf : Option ℕ → Option (List ℕ) → Option Pair → Option Pair → Option (List ℕ) → Option Pair → Report
-  reportOf R A1 A2 A3 A4 W =
-      record { R = R; A1 = A1; A2 = A2; A3 = A3; A4 = A4; W = W; verdict = verdictBy (found W) (found R || found A1 || found A2 || found A3 || found A4) }
+  abbrev withVerdict : Option ℕ → Option (List ℕ) → Option Pair → Option Pair → Option (List ℕ) → Option Pair → Report
+  withVerdict R A1 A2 A3 A4 W =
+      let verdict = verdictOf (record { R = R; A1 = A1; A2 = A2; A3 = A3; A4 = A4; W = W; verdict = consistent }) in
+      record { R = R; A1 = A1; A2 = A2; A3 = A3; A4 = A4; W = W; verdict = verdict }
 
   unfoldable pub mirrorReport : Report
   mirrorReport =
@@ -135,7 +148,7 @@ module _ (t : Table) where
       let wb0 = rows n (wb0? hb) in
       let wb = plus n (look wb0) in
       let sc = rows n (scStep? po hb wb) in
-      reportOf
+      withVerdict
       (firstBelow n (showsR? hb race))
       (firstCycle n (look wb0))
       (firstPair n (showsA2? cf hb))

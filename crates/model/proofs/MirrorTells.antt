@@ -1,24 +1,20 @@
 -- On a well-formed table each test of the mirror tells its definition.
 use mathlib.Core.Path.{_≡_, refl, subst}
 use mathlib.Core.Logic.{_⊎_, inl, inr}
-use mathlib.Core.Bool.{Bool, true, false, not, _&&_, _||_}
-use Prim.Native.Nat.{ℕ, _<_, _≤_}
+use Prim.Native.Nat.{ℕ}
 use native.Mathlib.Omega.{arith}
-use lib.Dec.{T, eqb}
 use Rattle.events.specs.declared.Link.the-variants.{Absent, To}
-use Rattle.laws.specs.Says.{Says, anyBelow}
-use Rattle.laws.specs.Steps.{Plus}
+use Rattle.laws.specs.Says.{Says}
 use Rattle.laws.proofs.Says.{says-T, says-eq, says-lt, says-not, says-and, says-or, says-iff, says-any}
-use Rattle.laws.proofs.Steps.{Within}
-use Rattle.model.specs.Table.{Table, Inside, thread, Parent, Source, NoSource, OneLocation}
-use Rattle.model.specs.Relations.{Po, AtOrAbove, equal, above, Apart, Conflict, Sw, PoOrSw, by-po, by-sw, Hb, Race, WriteOrReader, the-write, a-reader, Wb0, Wb, Fr, PoDiff, PoHbPo, HbscBy, at-one-location, by-po≠, by-po≠-hb-po≠, Hbsc, ScStepBy, by-hbsc, by-wb, by-fr, ScStep, EarlierRace, SomeEarlierRace, WriteBefore, SomeWriteBefore, Justified, with-source, no-write-before, races-earlier}
+use Rattle.model.specs.Table.{Table, Inside, thread, Source, NoSource}
+use Rattle.model.specs.Relations.{Po, AtOrAbove, equal, above, Apart, Conflict, Sw, by-po, by-sw, Hb, Race, WriteOrReader, the-write, a-reader, Wb0, Wb, Fr, PoDiff, PoHbPo, HbscBy, at-one-location, by-po≠, by-po≠-hb-po≠, by-hbsc, by-wb, by-fr, ScStep, SomeEarlierRace, SomeWriteBefore, Justified, with-source, no-write-before, races-earlier}
 use Rattle.model.specs.WellFormed.{WellFormed}
 use Rattle.model.specs.Findings.{ShowsR, ShowsA2, ShowsA3, ShowsW}
 use Rattle.model.proofs.Fields.{says-link}
 use Rattle.model.proofs.Refusals.{says-source-that}
-use Rattle.model.proofs.Within.{parent-within, po-within, source-within, po-or-sw-within, hb-within, above-within, race-within, wb0-within, wb-within}
+use Rattle.model.proofs.Within.{parent-within, po-within, source-within, po-or-sw-within, hb-within, above-within}
 use Rattle.model.proofs.Rows.{Tells, Rows, rows, look, plus, rows-tell, plus-tells}
-use Rattle.model.proofs.Mirror.{read?, write?, na?, sc?, acquiring?, releasing?, oneLocation?, parent?, source?, noSource?, po-rows, atOrAbove?, apart?, conflict?, sw?, poOrSw?, race?, writeOrReader?, wb0?, fr?, poDiff?, poHbPo?, hbsc?, scStep?, earlierRace?, writeBefore?, justified?, showsR?, showsA2?, showsA3?, showsW?}
+use Rattle.model.proofs.Mirror.{read?, write?, na?, sc?, acquiring?, releasing?, oneLocation?, source?, noSource?, po-rows, atOrAbove?, apart?, conflict?, sw?, poOrSw?, race?, writeOrReader?, wb0?, fr?, poDiff?, poHbPo?, hbsc?, scStep?, earlierRace?, writeBefore?, justified?, showsR?, showsA2?, showsA3?, showsW?}
 
 says-source : (t : Table) (s r : ℕ) → Says (source? t s r) (Source t s r)
 says-source t s r =

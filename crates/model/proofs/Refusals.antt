@@ -1,19 +1,19 @@
 -- Refusals 6, 7 and 8 as tests, and that each test tells its definition; so for a whole table.
-use mathlib.Core.Path.{_≡_, refl, sym, subst}
-use mathlib.Core.Logic.{_⊎_, inl, inr}
-use mathlib.Core.Bool.{Bool, true, false, not, _&&_, _||_}
-use mathlib.Core.Option.{none, some}
+use mathlib.Core.Path.{_≡_, refl}
+use mathlib.Core.Logic.{inl, inr}
+use mathlib.Core.Bool.{Bool, true, not, _&&_, _||_}
+use mathlib.Core.Option.{some}
 use mathlib.Core.List.{List, [], _∷_}
-use Prim.Native.Nat.{ℕ, zero, suc, _<_, _≤_}
+use Prim.Native.Nat.{ℕ, zero, suc, _≤_}
 use native.Mathlib.Omega.{arith}
-use lib.Dec.{T, eqb, leb, ltb}
+use lib.Dec.{eqb, leb, ltb}
 use lib.ListN.{length, getD}
-use Rattle.events.specs.declared.Value.the-variants.{U, Known}
-use Rattle.events.specs.declared.Link.the-variants.{Absent, To}
+use Rattle.events.specs.declared.Value.the-variants.{U}
+use Rattle.events.specs.declared.Link.the-variants.{Absent}
 use Rattle.events.specs.declared.Record.{Record}
 use Rattle.events.specs.Words.{isInit, isRead, isWrite, oneLocation, readOf, writtenOf}
 use Rattle.laws.specs.Says.{Says, anyBelow}
-use Rattle.laws.proofs.Says.{says-T, says-eq, says-lt, says-le, says-not, says-and, says-and-then, says-or, says-if, says-iff, says-any-below, says-all, says-yes}
+use Rattle.laws.proofs.Says.{says-T, says-eq, says-lt, says-le, says-not, says-and, says-and-then, says-or, says-if, says-iff, says-any-below, says-all}
 use Rattle.model.specs.Table.{Table, Ends, inert, listed, thread, Source}
 use Rattle.model.specs.WellFormed.{Root, Refused6, no-root, no-parent, parent-not-earlier, other-thread, thread-stood, EarlierWrite, Refused7, no-earlier-write, other-value, known-from-u, known-from-nothing, TwoReads, Refused8, twin, Sound, WellFormed}
 use Rattle.model.proofs.Fields.{sameLink, says-link, sameValue, says-value, linkThat, says-link-that, knownThat, says-known-that}

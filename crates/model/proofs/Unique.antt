@@ -1,5 +1,5 @@
 -- The definitions allow one report only.
-use mathlib.Core.Path.{_≡_, sym, ap, _∙_}
+use mathlib.Core.Path.{_≡_, sym, _∙_}
 use Rattle.laws.proofs.Least.{number-unique, pair-unique, cycle-unique}
 use Rattle.model.specs.Table.{Table}
 use Rattle.model.specs.Findings.{Report, Reports, ShowsA2, ShowsA3, ShowsW, verdictOf}
