@@ -1,16 +1,17 @@
--- Tests on the fields of a record: equal links, equal values, the number that a link or a value holds.
+-- Tests on the fields of a record: equal links, equal values, the number that a link or a value holds, the words on its event.
 use mathlib.Core.Path.{_≡_, refl, sym, subst, ap, _∙_}
-use mathlib.Core.Bool.{Bool, false}
+use mathlib.Core.Bool.{Bool, false, _&&_}
 use mathlib.Core.Option.{Option, none, some}
 use Prim.Native.Nat.{ℕ, zero, suc}
-use native.Mathlib.Omega.{arith}
 use lib.Dec.{eqb}
 use Rattle.events.specs.declared.Value.{Value}
 use Rattle.events.specs.declared.Value.the-variants.{U, Known}
 use Rattle.events.specs.declared.Link.{Link}
 use Rattle.events.specs.declared.Link.the-variants.{Absent, To}
+use Rattle.events.specs.Words.{isInit, isRead, isWrite, isNA, isSC, orderOf, acquires, releases, oneLocation}
 use Rattle.laws.specs.Says.{Says}
-use Rattle.laws.proofs.Says.{says-no, says-eq, says-iff}
+use Rattle.laws.proofs.Says.{says-no, says-T, says-eq, says-iff, says-and-then}
+use Rattle.model.specs.Table.{Table, Source}
 
 -- things that are told apart by a number of each
 says-by-code :
@@ -59,6 +60,13 @@ sameValue v w = eqb (valueCode v) (valueCode w)
 pub says-value : (v w : Option Value) → Says (sameValue v w) (v ≡ w)
 says-value = says-by-code valueCode valueBack value-turn
 
+abbrev Leads : Link → Type 0
+Leads Absent = ⊥
+Leads (To n) = Unit {0}
+
+pub absent-to : {l : Link} {n : ℕ} → l ≡ Absent → l ≡ To n → ⊥
+absent-to e f = subst Leads (sym f ∙ e) tt
+
 -- the link leads to a number that passes
 abbrev pub linkThat : Link → (ℕ → Bool) → Bool
 linkThat Absent f = false
@@ -66,11 +74,14 @@ linkThat (To n) f = f n
 
 pub says-link-that :
     (l : Link) {f : ℕ → Bool} {P : ℕ → Type 0} → ((n : ℕ) → l ≡ To n → Says (f n) (P n)) → Says (linkThat l f) ((n : ℕ) × ((l ≡ To n) × P n))
-says-link-that Absent s = says-no λ (n, (e, p)).
-    let z : _≡_ {A = ℕ} 0 1 = cc in
-    omega arith
+says-link-that Absent s = says-no (λ (n, (e, p)). absent-to refl e)
 says-link-that (To m) {P = P} s =
     says-iff (λ p. (m, (refl, p))) (λ (n, (e, p)). let q : n ≡ m = cc in subst P q p) (s m refl)
+
+abbrev IsKnown : Option Value → Type 0
+IsKnown none = ⊥
+IsKnown (some U) = ⊥
+IsKnown (some (Known n)) = Unit {0}
 
 -- the value is known, and its number passes
 abbrev pub knownThat : Option Value → (ℕ → Bool) → Bool
@@ -80,11 +91,44 @@ knownThat (some (Known n)) f = f n
 
 pub says-known-that :
     (v : Option Value) {f : ℕ → Bool} {P : ℕ → Type 0} → ((n : ℕ) → Says (f n) (P n)) → Says (knownThat v f) ((n : ℕ) × ((v ≡ some (Known n)) × P n))
-says-known-that none s = says-no λ (n, (e, p)).
-    let z : _≡_ {A = ℕ} 0 1 = cc in
-    omega arith
-says-known-that (some U) s = says-no λ (n, (e, p)).
-    let z : _≡_ {A = ℕ} 0 1 = cc in
-    omega arith
+says-known-that none s = says-no (λ (n, (e, p)). subst IsKnown (sym e) tt)
+says-known-that (some U) s = says-no (λ (n, (e, p)). subst IsKnown (sym e) tt)
 says-known-that (some (Known m)) {P = P} s =
     says-iff (λ p. (m, (refl, p))) (λ (n, (e, p)). let q : n ≡ m = cc in subst P q p) (s m)
+
+-- ---- the words on the record of a number, as tests
+
+module _ (t : Table) where
+  abbrev pub init? : ℕ → Bool
+  init? n = isInit (t .at n .event)
+
+  abbrev pub read? : ℕ → Bool
+  read? n = isRead (t .at n .event)
+
+  abbrev pub write? : ℕ → Bool
+  write? n = isWrite (t .at n .event)
+
+  abbrev pub na? : ℕ → Bool
+  na? n = isNA (orderOf (t .at n .event))
+
+  abbrev pub sc? : ℕ → Bool
+  sc? n = isSC (orderOf (t .at n .event))
+
+  abbrev pub acquiring? : ℕ → Bool
+  acquiring? n = acquires (orderOf (t .at n .event))
+
+  abbrev pub releasing? : ℕ → Bool
+  releasing? n = releases (orderOf (t .at n .event))
+
+  abbrev pub oneLocation? : ℕ → ℕ → Bool
+  oneLocation? a b = oneLocation (t .at a .event) (t .at b .event)
+
+  -- record n has a source that passes
+  abbrev pub sourceThat : ℕ → (ℕ → Bool) → Bool
+  sourceThat n f = read? n && linkThat (t .at n .source) f
+
+  pub says-source-that :
+      (n : ℕ) {f : ℕ → Bool} {P : ℕ → Type 0} → ((s : ℕ) → Source t s n → Says (f s) (P s)) → Says (sourceThat n f) ((s : ℕ) × (Source t s n × P s))
+  says-source-that n x =
+      says-iff (λ (r, (s, (e, p))). (s, (record { reads = r; is = e }, p))) (λ (s, (c, p)). (c .reads, (s, (c .is, p))))
+      (says-and-then (says-T (read? n)) (λ r. says-link-that (t .at n .source) (λ s e. x s (record { reads = r; is = e }))))

@@ -6,44 +6,21 @@ use mathlib.Core.List.{List}
 use Prim.Native.Nat.{ℕ}
 use lib.Dec.{eqb, ltb}
 use Rattle.events.specs.declared.Link.the-variants.{Absent, To}
-use Rattle.events.specs.Words.{isRead, isWrite, isNA, isSC, orderOf, acquires, releases, oneLocation}
 use Rattle.laws.specs.Says.{anyBelow}
 use Rattle.laws.specs.Least.{Pair}
 use Rattle.model.specs.Table.{Table, thread}
 use Rattle.model.specs.Findings.{Report, consistent, verdictOf}
-use Rattle.model.proofs.Fields.{sameLink}
-use Rattle.model.proofs.Refusals.{sourceThat}
+use Rattle.model.proofs.Fields.{sameLink, read?, write?, na?, sc?, acquiring?, releasing?, oneLocation?, sourceThat}
 use Rattle.model.proofs.Rows.{Rows, rows, look, plus}
 use Rattle.model.proofs.Search.{firstBelow, firstPair}
 use Rattle.model.proofs.Cycles.{firstCycle}
 
 module _ (t : Table) where
-  abbrev pub read? : ℕ → Bool
-  read? n = isRead (t .at n .event)
-
-  abbrev pub write? : ℕ → Bool
-  write? n = isWrite (t .at n .event)
-
-  abbrev pub na? : ℕ → Bool
-  na? n = isNA (orderOf (t .at n .event))
-
-  abbrev pub sc? : ℕ → Bool
-  sc? n = isSC (orderOf (t .at n .event))
-
-  abbrev pub acquiring? : ℕ → Bool
-  acquiring? n = acquires (orderOf (t .at n .event))
-
-  abbrev pub releasing? : ℕ → Bool
-  releasing? n = releases (orderOf (t .at n .event))
-
-  abbrev pub oneLocation? : ℕ → ℕ → Bool
-  oneLocation? a b = oneLocation (t .at a .event) (t .at b .event)
-
   abbrev pub parent? : ℕ → ℕ → Bool
   parent? p n = sameLink (t .at n .parent) (To p)
 
   abbrev pub source? : ℕ → ℕ → Bool
-  source? s r = read? r && sameLink (t .at r .source) (To s)
+  source? s r = read? t r && sameLink (t .at r .source) (To s)
 
   abbrev pub noSource? : ℕ → Bool
   noSource? r = sameLink (t .at r .source) Absent
@@ -67,7 +44,7 @@ module _ (t : Table) where
   conflict-rows = let po = po-rows in rows (t .count) (conflict? po)
 
   abbrev pub sw? : ℕ → ℕ → Bool
-  sw? s r = source? s r && (releasing? s && acquiring? r)
+  sw? s r = source? s r && (releasing? t s && acquiring? t r)
 
   abbrev pub poOrSw? : Rows → ℕ → ℕ → Bool
   poOrSw? po a b = look po a b || sw? a b
@@ -77,7 +54,7 @@ module _ (t : Table) where
 
   abbrev pub race? : Rows → Rows → ℕ → ℕ → Bool
   race? cf hb a b =
-      not (eqb a b) && (oneLocation? a b && ((write? a || write? b) && ((na? a || na? b) && (not (look hb a b) && (not (look hb b a) && not (look cf a b))))))
+      not (eqb a b) && (oneLocation? t a b && ((write? t a || write? t b) && ((na? t a || na? t b) && (not (look hb a b) && (not (look hb b a) && not (look cf a b))))))
 
   abbrev pub race-rows : Rows
   race-rows =
@@ -90,31 +67,31 @@ module _ (t : Table) where
 
   abbrev pub wb0? : Rows → ℕ → ℕ → Bool
   wb0? hb w w′ =
-      write? w && (write? w′ && (not (eqb w w′) && (oneLocation? w w′ && anyBelow (λ x. writeOrReader? w x && anyBelow (λ y. writeOrReader? w′ y && look hb x y) (t .count)) (t .count))))
+      write? t w && (write? t w′ && (not (eqb w w′) && (oneLocation? t w w′ && anyBelow (λ x. writeOrReader? w x && anyBelow (λ y. writeOrReader? w′ y && look hb x y) (t .count)) (t .count))))
 
   abbrev pub fr? : Rows → ℕ → ℕ → Bool
   fr? wb r w = not (eqb r w) && sourceThat t r (λ s. look wb s w)
 
   abbrev pub poDiff? : Rows → ℕ → ℕ → Bool
-  poDiff? po a b = look po a b && not (oneLocation? a b)
+  poDiff? po a b = look po a b && not (oneLocation? t a b)
 
   abbrev pub poHbPo? : Rows → Rows → ℕ → ℕ → Bool
   poHbPo? po hb a b =
       anyBelow (λ c. poDiff? po a c && anyBelow (λ d. look hb c d && poDiff? po d b) (t .count)) (t .count)
 
   abbrev pub hbsc? : Rows → Rows → ℕ → ℕ → Bool
-  hbsc? po hb a b = (look hb a b && oneLocation? a b) || (poDiff? po a b || poHbPo? po hb a b)
+  hbsc? po hb a b = (look hb a b && oneLocation? t a b) || (poDiff? po a b || poHbPo? po hb a b)
 
   abbrev pub scStep? : Rows → Rows → Rows → ℕ → ℕ → Bool
-  scStep? po hb wb a b = sc? a && (sc? b && (hbsc? po hb a b || (look wb a b || fr? wb a b)))
+  scStep? po hb wb a b = sc? t a && (sc? t b && (hbsc? po hb a b || (look wb a b || fr? wb a b)))
 
   -- ---- the findings
 
   abbrev pub earlierRace? : Rows → ℕ → Bool
-  earlierRace? race r = anyBelow (λ w. write? w && look race w r) r
+  earlierRace? race r = anyBelow (λ w. write? t w && look race w r) r
 
   abbrev pub writeBefore? : Rows → ℕ → Bool
-  writeBefore? hb r = anyBelow (λ w. write? w && (oneLocation? w r && look hb w r)) (t .count)
+  writeBefore? hb r = anyBelow (λ w. write? t w && (oneLocation? t w r && look hb w r)) (t .count)
 
   abbrev pub justified? : Rows → Rows → ℕ → Bool
   justified? hb race r =
@@ -122,7 +99,7 @@ module _ (t : Table) where
       || ((noSource? r && not (writeBefore? hb r)) || (noSource? r && earlierRace? race r))
 
   abbrev pub showsR? : Rows → Rows → ℕ → Bool
-  showsR? hb race r = read? r && not (justified? hb race r)
+  showsR? hb race r = read? t r && not (justified? hb race r)
 
   abbrev pub showsA2? : Rows → Rows → ℕ → ℕ → Bool
   showsA2? cf hb p q = look cf p q && look hb p q
@@ -131,7 +108,7 @@ module _ (t : Table) where
   showsA3? cf hb r′ r = look hb r′ r && sourceThat t r′ (λ s′. sourceThat t r (λ s. look cf s′ s))
 
   abbrev pub showsW? : Rows → ℕ → ℕ → Bool
-  showsW? race p q = ltb p q && (write? p && (write? q && look race p q))
+  showsW? race p q = ltb p q && (write? t p && (write? t q && look race p q))
 
   abbrev withVerdict : Option ℕ → Option (List ℕ) → Option Pair → Option Pair → Option (List ℕ) → Option Pair → Report
   withVerdict R A1 A2 A3 A4 W =

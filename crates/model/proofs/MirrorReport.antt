@@ -1,26 +1,15 @@
 -- The mirror's report of a well-formed table is the one that the definitions ask for.
 use mathlib.Core.Path.{refl}
-use Rattle.laws.proofs.Steps.{Within}
 use Rattle.model.specs.Table.{Table}
 use Rattle.model.specs.WellFormed.{WellFormed}
-use Rattle.model.specs.Findings.{ShowsA2, ShowsA3, ShowsW, Reports}
+use Rattle.model.specs.Findings.{Reports}
 use Rattle.model.proofs.Facts.{read-inside}
-use Rattle.model.proofs.Within.{hb-within, race-within, wb0-within, sc-step-within}
+use Rattle.model.proofs.Within.{within-by, hb-within, race-within, wb0-within, sc-step-within}
 use Rattle.model.proofs.Rows.{rows, look, plus, plus-tells}
 use Rattle.model.proofs.Search.{first-least, first-pair-least}
 use Rattle.model.proofs.Cycles.{cycle-least}
 use Rattle.model.proofs.Mirror.{po-rows, conflict?, poOrSw?, race?, wb0?, mirrorReport}
 use Rattle.model.proofs.MirrorTells.{po-tells, conflict-tells, hb-tells, race-tells, A2-tells, A3-tells, wb0-tells, says-R, W-tells, sc-tells}
-
-module _ {t : Table} (ok : WellFormed t) where
-  A2-within : Within (t .count) (ShowsA2 t)
-  A2-within = record { left = λ f. hb-within ok .left (f .before); right = λ f. hb-within ok .right (f .before) }
-
-  A3-within : Within (t .count) (ShowsA3 t)
-  A3-within = record { left = λ f. hb-within ok .left (f .before); right = λ f. hb-within ok .right (f .before) }
-
-  W-within : Within (t .count) (ShowsW t)
-  W-within = record { left = λ f. race-within ok .left (f .race); right = λ f. race-within ok .right (f .race) }
 
 pub reports : (t : Table) → WellFormed t → Reports t (mirrorReport t)
 unfolding mirrorReport
@@ -39,9 +28,9 @@ reports t ok =
     record {
       R = first-least n (λ r c. read-inside ok r (c .reads)) (says-R ok hb hb-ok race race-ok);
       A1 = cycle-least wb0-ok (wb0-within ok);
-      A2 = first-pair-least (A2-tells ok cf hb cf-ok hb-ok) (A2-within ok);
-      A3 = first-pair-least (A3-tells ok cf hb cf-ok hb-ok) (A3-within ok);
+      A2 = first-pair-least (A2-tells ok cf hb cf-ok hb-ok) (within-by (λ p q f. f .before) (hb-within ok));
+      A3 = first-pair-least (A3-tells ok cf hb cf-ok hb-ok) (within-by (λ p q f. f .before) (hb-within ok));
       A4 = cycle-least (sc-tells ok po hb wb po-ok hb-ok (plus-tells wb0-ok (wb0-within ok))) (sc-step-within ok);
-      W = first-pair-least (W-tells ok hb hb-ok race race-ok) (W-within ok);
+      W = first-pair-least (W-tells ok hb hb-ok race race-ok) (within-by (λ p q f. f .race) (race-within ok));
       verdict = refl;
     }

@@ -11,27 +11,21 @@ use lib.ListN.{length, getD}
 use Rattle.events.specs.declared.Value.the-variants.{U}
 use Rattle.events.specs.declared.Link.the-variants.{Absent}
 use Rattle.events.specs.declared.Record.{Record}
-use Rattle.events.specs.Words.{isInit, isRead, isWrite, oneLocation, readOf, writtenOf}
+use Rattle.events.specs.Words.{readOf, writtenOf}
 use Rattle.laws.specs.Says.{Says, anyBelow}
-use Rattle.laws.proofs.Says.{says-T, says-eq, says-lt, says-le, says-not, says-and, says-and-then, says-or, says-if, says-iff, says-any-below, says-all}
-use Rattle.model.specs.Table.{Table, Ends, inert, listed, thread, Source}
+use Rattle.laws.proofs.Says.{says-T, says-eq, says-lt, says-le, says-not, says-and, says-or, says-if, says-iff, says-any-below, says-all}
+use Rattle.model.specs.Table.{Table, Ends, inert, listed, thread}
 use Rattle.model.specs.WellFormed.{Root, Refused6, no-root, no-parent, parent-not-earlier, other-thread, thread-stood, EarlierWrite, Refused7, no-earlier-write, other-value, known-from-u, known-from-nothing, TwoReads, Refused8, twin, Sound, WellFormed}
-use Rattle.model.proofs.Fields.{sameLink, says-link, sameValue, says-value, linkThat, says-link-that, knownThat, says-known-that}
+use Rattle.model.proofs.Fields.{sameLink, says-link, sameValue, says-value, linkThat, says-link-that, knownThat, says-known-that, init?, read?, write?, oneLocation?, sourceThat, says-source-that}
 
 module _ (t : Table) where
-  abbrev init? : ℕ → Bool
-  init? n = isInit (t .at n .event)
-
-  abbrev reads? : ℕ → Bool
-  reads? n = isRead (t .at n .event)
-
   abbrev pub root? : ℕ → Bool
-  root? n = init? n && (eqb (thread t n) 0 && sameLink (t .at n .parent) Absent)
+  root? n = init? t n && (eqb (thread t n) 0 && sameLink (t .at n .parent) Absent)
 
   pub says-root : (n : ℕ) → Says (root? n) (Root t n)
   says-root n =
       says-iff (λ (a, (b, c)). record { init = a; thread-0 = b; no-parent = c }) (λ r. (r .init, (r .thread-0, r .no-parent)))
-      (says-and (says-T (init? n)) (says-and (says-eq (thread t n) 0) (says-link (t .at n .parent) Absent)))
+      (says-and (says-T (init? t n)) (says-and (says-eq (thread t n) 0) (says-link (t .at n .parent) Absent)))
 
   -- a test for each clause of 6, in the definition's order
   abbrev pub refused6? : ℕ → Bool
@@ -39,14 +33,14 @@ module _ (t : Table) where
       (eqb n 0 && not (root? n))
       || ((not (eqb n 0) && sameLink (t .at n .parent) Absent)
       || ((not (eqb n 0) && linkThat (t .at n .parent) (λ p. leb n p))
-      || ((not (eqb n 0) && (not (init? n) && linkThat (t .at n .parent) (λ p. not (eqb (thread t n) (thread t p)))))
-      || (init? n && anyBelow (λ m. eqb (thread t m) (thread t n)) n))))
+      || ((not (eqb n 0) && (not (init? t n) && linkThat (t .at n .parent) (λ p. not (eqb (thread t n) (thread t p)))))
+      || (init? t n && anyBelow (λ m. eqb (thread t m) (thread t n)) n))))
 
   pub says-6 : (n : ℕ) → Says (refused6? n) (Refused6 t n)
   says-6 n =
       let later = says-not (says-eq n 0) in
       let parent = t .at n .parent in
-      let init = says-T (init? n) in
+      let init = says-T (init? t n) in
       says-iff
       (λ x. elim x [
         | inl (z, r) ↦ no-root z r
@@ -69,31 +63,21 @@ module _ (t : Table) where
       (says-and init (says-any-below (λ m l. says-eq (thread t m) (thread t n))))))))
 
   abbrev earlierWrite? : ℕ → ℕ → Bool
-  earlierWrite? s n = ltb s n && (isWrite (t .at s .event) && oneLocation (t .at s .event) (t .at n .event))
+  earlierWrite? s n = ltb s n && (write? t s && oneLocation? t s n)
 
   pub says-earlier-write : (s n : ℕ) → Says (earlierWrite? s n) (EarlierWrite t s n)
   says-earlier-write s n =
       says-iff (λ (a, (b, c)). record { earlier = a; write = b; one-location = c }) (λ w. (w .earlier, (w .write, w .one-location)))
-      (says-and (says-lt s n) (says-and (says-T (isWrite (t .at s .event))) (says-T (oneLocation (t .at s .event) (t .at n .event)))))
-
-  -- record n has a source that passes
-  abbrev pub sourceThat : ℕ → (ℕ → Bool) → Bool
-  sourceThat n f = reads? n && linkThat (t .at n .source) f
-
-  pub says-source-that :
-      (n : ℕ) {f : ℕ → Bool} {P : ℕ → Type 0} → ((s : ℕ) → Source t s n → Says (f s) (P s)) → Says (sourceThat n f) ((s : ℕ) × (Source t s n × P s))
-  says-source-that n x =
-      says-iff (λ (r, (s, (e, p))). (s, (record { reads = r; is = e }, p))) (λ (s, (c, p)). (c .reads, (s, (c .is, p))))
-      (says-and-then (says-T (reads? n)) (λ r. says-link-that (t .at n .source) (λ s e. x s (record { reads = r; is = e }))))
+      (says-and (says-lt s n) (says-and (says-T (write? t s)) (says-T (oneLocation? t s n))))
 
   abbrev readsKnown : ℕ → (ℕ → Bool) → Bool
   readsKnown n = knownThat (readOf (t .at n .event))
 
   abbrev pub refused7? : ℕ → Bool
   refused7? n =
-      sourceThat n (λ s. not (earlierWrite? s n))
-      || (sourceThat n (λ s. knownThat (writtenOf (t .at s .event)) (λ w. readsKnown n (λ v. not (eqb w v))))
-      || (sourceThat n (λ s. sameValue (writtenOf (t .at s .event)) (some U) && readsKnown n (λ v. true))
+      sourceThat t n (λ s. not (earlierWrite? s n))
+      || (sourceThat t n (λ s. knownThat (writtenOf (t .at s .event)) (λ w. readsKnown n (λ v. not (eqb w v))))
+      || (sourceThat t n (λ s. sameValue (writtenOf (t .at s .event)) (some U) && readsKnown n (λ v. true))
       || (sameLink (t .at n .source) Absent && readsKnown n (λ v. true))))
 
   pub says-7 : (n : ℕ) → Says (refused7? n) (Refused7 t n)
@@ -112,21 +96,21 @@ module _ (t : Table) where
         | known-from-u {s} {v} c a b ↦ inr (inr (inl (s, (c, (a, (v, (b, tt)))))))
         | known-from-nothing {v} e b ↦ inr (inr (inr (e, (v, (b, tt)))))
       ])
-      (says-or (says-source-that n (λ s c. says-not (says-earlier-write s n)))
-      (says-or (says-source-that n (λ s c. says-known-that (writtenOf (t .at s .event)) (λ w. says-known-that value (λ v. says-not (says-eq w v)))))
-      (says-or (says-source-that n (λ s c. says-and (says-value (writtenOf (t .at s .event)) (some U)) (says-known-that value (λ v. says-T true))))
+      (says-or (says-source-that t n (λ s c. says-not (says-earlier-write s n)))
+      (says-or (says-source-that t n (λ s c. says-known-that (writtenOf (t .at s .event)) (λ w. says-known-that value (λ v. says-not (says-eq w v)))))
+      (says-or (says-source-that t n (λ s c. says-and (says-value (writtenOf (t .at s .event)) (some U)) (says-known-that value (λ v. says-T true))))
       (says-and (says-link (t .at n .source) Absent) (says-known-that value (λ v. says-T true))))))
 
   abbrev twoReads? : ℕ → ℕ → Bool
   twoReads? m n =
-      reads? m && (reads? n && (oneLocation (t .at m .event) (t .at n .event) && not (sameValue (readOf (t .at m .event)) (readOf (t .at n .event)))))
+      read? t m && (read? t n && (oneLocation? t m n && not (sameValue (readOf (t .at m .event)) (readOf (t .at n .event)))))
 
   pub says-two-reads : (m n : ℕ) → Says (twoReads? m n) (TwoReads t m n)
   says-two-reads m n =
       says-iff (λ (a, (b, (c, d))). record { read-m = a; read-n = b; one-location = c; different = d }) (λ r. (r .read-m, (r .read-n, (r .one-location, r .different))))
-      (says-and (says-T (reads? m))
-      (says-and (says-T (reads? n))
-      (says-and (says-T (oneLocation (t .at m .event) (t .at n .event)))
+      (says-and (says-T (read? t m))
+      (says-and (says-T (read? t n))
+      (says-and (says-T (oneLocation? t m n))
       (says-not (says-value (readOf (t .at m .event)) (readOf (t .at n .event)))))))
 
   abbrev pub refused8? : ℕ → Bool
@@ -141,14 +125,14 @@ module _ (t : Table) where
 
   abbrev pub sound? : ℕ → Bool
   sound? n =
-      not (refused6? n) && (not (refused7? n) && (not (refused8? n) && (not (not (reads? n)) || sameLink (t .at n .source) Absent)))
+      not (refused6? n) && (not (refused7? n) && (not (refused8? n) && (not (not (read? t n)) || sameLink (t .at n .source) Absent)))
 
   pub says-sound : (n : ℕ) → Says (sound? n) (Sound t n)
   says-sound n =
       says-iff (λ (a, (b, (c, d))). record { not-6 = a; not-7 = b; not-8 = c; only-reads = d }) (λ s. (s .not-6, (s .not-7, (s .not-8, s .only-reads))))
       (says-and (says-not (says-6 n))
       (says-and (says-not (says-7 n))
-      (says-and (says-not (says-8 n)) (says-if (says-not (says-T (reads? n))) (says-link (t .at n .source) Absent)))))
+      (says-and (says-not (says-8 n)) (says-if (says-not (says-T (read? t n))) (says-link (t .at n .source) Absent)))))
 
   -- of a table that ends with its last record
   unfoldable pub wellFormed? : Bool

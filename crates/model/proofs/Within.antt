@@ -11,6 +11,10 @@ use Rattle.model.specs.Relations.{Po, AtOrAbove, equal, above, Conflict,
 use Rattle.model.specs.WellFormed.{WellFormed}
 use Rattle.model.proofs.Facts.{location-left, location-right, write-inside, sc-inside, parent-inside, parent-earlier, source-inside, source-is-earlier-write}
 
+-- what comes with a relation that stays inside stays inside
+pub within-by : {n : ℕ} {R S : ℕ → ℕ → Type 0} → ((a b : ℕ) → S a b → R a b) → Within n R → Within n S
+within-by f w = record { left = λ {a} {b} s. w .left (f a b s); right = λ {a} {b} s. w .right (f a b s) }
+
 module _ {t : Table} (ok : WellFormed t) where
   pub parent-within : Within (t .count) (Parent t)
   parent-within =
@@ -24,7 +28,7 @@ module _ {t : Table} (ok : WellFormed t) where
       record { left = λ {a} c. write-inside ok a (source-is-earlier-write ok c .write); right = λ c. source-inside ok c }
 
   pub sw-within : Within (t .count) (Sw t)
-  sw-within = record { left = λ s. source-within .left (s .source); right = λ s. source-within .right (s .source) }
+  sw-within = within-by (λ a b s. s .source) source-within
 
   pub po-or-sw-within : Within (t .count) (PoOrSw t)
   po-or-sw-within = record { left = left; right = right }

@@ -24,7 +24,8 @@ use Rattle.model.specs.WellFormed.{WellFormed}
 use Rattle.model.specs.Findings.{Report, Reports, consistent, HoldsR, HoldsA1, ShowsW}
 use Rattle.model.specs.Examples.{Example, Right, E1, E2, E8, E9}
 use Rattle.model.proofs.Unique.{one-report}
-use Rattle.model.proofs.Facts.{absent-to, thread-of-parent}
+use Rattle.model.proofs.Fields.{absent-to}
+use Rattle.model.proofs.Facts.{thread-of-parent}
 use Rattle.model.proofs.Within.{hb-rises}
 use Rattle.model.proofs.Rows.{look}
 use Rattle.model.proofs.Refusals.{wellFormed?}
