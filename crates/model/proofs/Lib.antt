@@ -11,5 +11,6 @@ pub mod Cycles
 pub mod Mirror
 pub mod MirrorTells
 pub mod MirrorReport
+pub mod Decide
 pub mod Worked
 pub mod WrongJudges

@@ -8,22 +8,22 @@ use Rattle.model.proofs.Within.{within-by, hb-within, race-within, wb0-
 use Rattle.model.proofs.Rows.{rows, look, plus, plus-tells}
 use Rattle.model.proofs.Search.{first-least, first-pair-least}
 use Rattle.model.proofs.Cycles.{cycle-least}
-use Rattle.model.proofs.Mirror.{po-rows, conflict?, poOrSw?, race?, wb0?, mirrorReport}
-use Rattle.model.proofs.MirrorTells.{po-tells, conflict-tells, hb-tells, race-tells, A2-tells, A3-tells, wb0-tells, says-R, W-tells, sc-tells}
+use Rattle.model.proofs.Mirror.{po-rows, conflict-rows, hb-rows, race-rows, wb0?, mirrorReport}
+use Rattle.model.proofs.MirrorTells.{po-tells, conflict-told, hb-told, race-told, A2-tells, A3-tells, wb0-tells, says-R, W-tells, sc-tells}
 
 pub reports : (t : Table) → WellFormed t → Reports t (mirrorReport t)
 unfolding mirrorReport
 reports t ok =
     let n = t .count in
     let po = po-rows t in
-    let cf = rows n (conflict? t po) in
-    let hb = plus n (poOrSw? t po) in
-    let race = rows n (race? t cf hb) in
+    let cf = conflict-rows t in
+    let hb = hb-rows t in
+    let race = race-rows t in
     let wb = plus n (look (rows n (wb0? t hb))) in
     let po-ok = po-tells ok in
-    let cf-ok = conflict-tells ok po po-ok in
-    let hb-ok = hb-tells ok po po-ok in
-    let race-ok = race-tells ok cf hb cf-ok hb-ok in
+    let cf-ok = conflict-told ok in
+    let hb-ok = hb-told ok in
+    let race-ok = race-told ok in
     let wb0-ok = wb0-tells ok hb hb-ok in
     record {
       R = first-least n (λ r c. read-inside ok r (c .reads)) (says-R ok hb hb-ok race race-ok);

@@ -13,7 +13,7 @@ use Rattle.model.specs.Findings.{ShowsR, ShowsA2, ShowsA3, ShowsW}
 use Rattle.model.proofs.Fields.{says-link, read?, write?, na?, sc?, acquiring?, releasing?, oneLocation?, says-source-that}
 use Rattle.model.proofs.Within.{parent-within, po-within, source-within, po-or-sw-within, hb-within, above-within}
 use Rattle.model.proofs.Rows.{Tells, Rows, rows, look, plus, rows-tell, plus-tells}
-use Rattle.model.proofs.Mirror.{source?, noSource?, po-rows, atOrAbove?, apart?, conflict?, sw?, poOrSw?, race?, writeOrReader?, wb0?, fr?, poDiff?, poHbPo?, hbsc?, scStep?, earlierRace?, writeBefore?, justified?, showsR?, showsA2?, showsA3?, showsW?}
+use Rattle.model.proofs.Mirror.{source?, noSource?, po-rows, atOrAbove?, apart?, conflict?, conflict-rows, sw?, poOrSw?, hb-rows, race?, race-rows, writeOrReader?, wb0?, fr?, poDiff?, poHbPo?, hbsc?, scStep?, earlierRace?, writeBefore?, justified?, showsR?, showsA2?, showsA3?, showsW?}
 
 says-source : (t : Table) (s r : ℕ) → Says (source? t s r) (Source t s r)
 says-source t s r =
@@ -54,7 +54,7 @@ module _ {t : Table} (ok : WellFormed t) where
         (says-and (says-eq (thread t a) (thread t b))
         (says-and (says-not (says-eq a b)) (says-and (says-not (po-ok .each a b x y)) (says-not (po-ok .each b a y x)))))
 
-    pub conflict-tells : Tells (t .count) (look (rows (t .count) (conflict? t po))) (Conflict t)
+    conflict-tells : Tells (t .count) (look (rows (t .count) (conflict? t po))) (Conflict t)
     conflict-tells = rows-tell (record {
       each = λ a b x y.
           says-iff (λ (a′, (u, (b′, (v, k)))). record { a′ = a′; b′ = b′; above-a = u; above-b = v; apart = k })
@@ -65,7 +65,7 @@ module _ {t : Table} (ok : WellFormed t) where
           says-and (says-above b′ b y′ y) (says-apart a′ b′ x′ y′)));
     })
 
-    pub hb-tells : Tells (t .count) (look (plus (t .count) (poOrSw? t po))) (Hb t)
+    hb-tells : Tells (t .count) (look (plus (t .count) (poOrSw? t po))) (Hb t)
     hb-tells =
         plus-tells (record {
           each = λ a b x y.
@@ -74,7 +74,7 @@ module _ {t : Table} (ok : WellFormed t) where
         }) (po-or-sw-within ok)
 
   module _ (cf hb : Rows) (cf-ok : Tells (t .count) (look cf) (Conflict t)) (hb-ok : Tells (t .count) (look hb) (Hb t)) where
-    pub race-tells : Tells (t .count) (look (rows (t .count) (race? t cf hb))) (Race t)
+    race-tells : Tells (t .count) (look (rows (t .count) (race? t cf hb))) (Race t)
     race-tells = rows-tell (record {
       each = λ a b x y.
           says-iff
@@ -121,18 +121,18 @@ module _ {t : Table} (ok : WellFormed t) where
           says-and (says-write-or-reader t w′ y) (hb-ok .each x y h k)))))));
     })
 
-    says-write-before : (r : ℕ) → Inside t r → Says (writeBefore? t hb r) (SomeWriteBefore t r)
+    pub says-write-before : (r : ℕ) → Inside t r → Says (writeBefore? t hb r) (SomeWriteBefore t r)
     says-write-before r y = says-any (λ w c. hb-within ok .left (c .before)) λ w x.
         says-iff (λ (p, (l, b)). record { write = p; one-location = l; before = b }) (λ c. (c .write, (c .one-location, c .before)))
         (says-and (says-T (write? t w)) (says-and (says-T (oneLocation? t w r)) (hb-ok .each w r x y)))
 
     module _ (race : Rows) (race-ok : Tells (t .count) (look race) (Race t)) where
-      says-earlier-race : (r : ℕ) → Inside t r → Says (earlierRace? t race r) (SomeEarlierRace t r)
+      pub says-earlier-race : (r : ℕ) → Inside t r → Says (earlierRace? t race r) (SomeEarlierRace t r)
       says-earlier-race r y = says-any (λ w c. c .earlier) λ w l.
           says-iff (λ (p, c). record { earlier = l; write = p; race = c }) (λ c. (c .write, c .race))
           (says-and (says-T (write? t w)) (race-ok .each w r (omega arith) y))
 
-      says-justified : (r : ℕ) → Inside t r → Says (justified? t hb race r) (Justified t r)
+      pub says-justified : (r : ℕ) → Inside t r → Says (justified? t hb race r) (Justified t r)
       says-justified r y =
           says-iff
           (λ z. elim z [
@@ -197,3 +197,14 @@ module _ {t : Table} (ok : WellFormed t) where
           (says-and (says-T (sc? t a))
           (says-and (says-T (sc? t b)) (says-or (says-hbsc a b x y) (says-or (wb-ok .each a b x y) (says-fr a b y)))));
     })
+
+  -- ---- the rows of a table
+
+  pub conflict-told : Tells (t .count) (look (conflict-rows t)) (Conflict t)
+  conflict-told = conflict-tells (po-rows t) po-tells
+
+  pub hb-told : Tells (t .count) (look (hb-rows t)) (Hb t)
+  hb-told = hb-tells (po-rows t) po-tells
+
+  pub race-told : Tells (t .count) (look (race-rows t)) (Race t)
+  race-told = race-tells (conflict-rows t) (hb-rows t) conflict-told hb-told

@@ -29,8 +29,8 @@ use Rattle.model.proofs.Facts.{thread-of-parent}
 use Rattle.model.proofs.Within.{hb-rises}
 use Rattle.model.proofs.Rows.{look}
 use Rattle.model.proofs.Refusals.{wellFormed?}
-use Rattle.model.proofs.Mirror.{po-rows, conflict-rows, hb-rows, race-rows, mirrorReport}
-use Rattle.model.proofs.MirrorTells.{po-tells, conflict-tells, hb-tells, race-tells}
+use Rattle.model.proofs.Mirror.{hb-rows, race-rows, mirrorReport}
+use Rattle.model.proofs.MirrorTells.{hb-told, race-told}
 use Rattle.model.proofs.Worked.{right, examples-right}
 
 -- ---- judges that never say one thing
@@ -112,16 +112,14 @@ raced-read t r c w (races e x) = absent-to e (c .is)
 module _ {t : Table} (ok : WellFormed t) where
   -- by the mirror: a races with b
   raced : (a b : ℕ) → T (ltb a (t .count)) → T (ltb b (t .count)) → T (look (race-rows t) a b) → Race t a b
-  raced a b h k r =
-      let po-ok = po-tells ok in
-      race-tells ok (conflict-rows t) (hb-rows t) (conflict-tells ok (po-rows t) po-ok) (hb-tells ok (po-rows t) po-ok) .each a b (says-lt a (t .count) .to h) (says-lt b (t .count) .to k) .to r
+  raced a b h k r = race-told ok .each a b (says-lt a (t .count) .to h) (says-lt b (t .count) .to k) .to r
 
   -- by the mirror: a is not hb before the later b, and b never before a
   unordered : (a b : ℕ) → T (ltb a b) → T (ltb b (t .count)) → T (not (look (hb-rows t) a b)) → ¬ Hb t a b × ¬ Hb t b a
   unordered a b l h n =
       let x : a < b = says-lt a b .to l in
       let y : b < t .count = says-lt b (t .count) .to h in
-      (says-not (hb-tells ok (po-rows t) (po-tells ok) .each a b (omega arith) y) .to n, λ back. omega (arith, hb-rises ok back))
+      (says-not (hb-told ok .each a b (omega arith) y) .to n, λ back. omega (arith, hb-rises ok back))
 
 -- reads 5 and 6 race with the later writes 9 and 7
 abbrev E8-table : Table
