@@ -4,3 +4,4 @@ pub mod Steps
 pub mod Closure
 pub mod Least
 pub mod Walks
+pub mod Renumbered

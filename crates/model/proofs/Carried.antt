@@ -8,8 +8,8 @@ use Rattle.model.specs.Table.{Table, Read}
 use Rattle.model.specs.Relations.{Hb, WriteOrReader, the-write, a-reader, Wb0, Wb, Fr, PoDiff, HbscBy, at-one-location, by-po≠, by-po≠-hb-po≠, Hbsc}
 use Rattle.model.specs.Relations.{ScStepBy, by-hbsc, by-wb, by-fr, ScStep, EarlierRace, SomeEarlierRace, WriteBefore, Justified, with-source, no-write-before, races-earlier, StandsOnRace}
 use Rattle.model.specs.Findings.{HoldsR, HoldsA1, HoldsA2, HoldsA3, HoldsA4, HoldsW}
-use Rattle.model.proofs.CarriedCycle.{cycle-map}
-use Rattle.model.proofs.Symmetric.{race-sym}
+use Rattle.laws.proofs.Renumbered.{cycle-map}
+use Rattle.model.proofs.Laws.{race-sym}
 use Rattle.model.proofs.Renumber.{Renumbering, Along, Related, pulled, pulled-is, related-pulled}
 
 -- R is carried over if a racing write that stands before a read in t′ does so in t, and a read that stands on a race in t has a racing
@@ -125,7 +125,7 @@ module _ (t′ t : Table) (f : ℕ → ℕ) (N : Renumbering t′ t f) where
       tri (f a) (f b)
       (λ l. (f a, f b, record { in-order = l; write-p = h .write-p; write-q = h .write-q; race = race }))
       (λ e. absurd (race .differ e))
-      (λ g. (f b, f a, record { in-order = g; write-p = h .write-q; write-q = h .write-p; race = race-sym t race }))
+      (λ g. (f b, f a, record { in-order = g; write-p = h .write-q; write-q = h .write-p; race = race-sym race }))
 
   write-before : (w r : ℕ) → WriteBefore p w r → WriteBefore t (f w) (f r)
   write-before w r h = record { write = h .write; one-location = h .one-location; before = same-hb w r .0 (h .before) }

@@ -12,7 +12,7 @@ use Rattle.model.specs.WellFormed.{WellFormed}
 use Rattle.model.specs.Cut.{renumbered, newNumber, CutOf, Complete, Selection, SameFor, NoFaultInvented}
 use Rattle.model.proofs.CutNumbers.{oldNumber, new-below, old-rises, old-rises-back, old-injective, old-inside, old-kept, old-new, new-old}
 use Rattle.model.proofs.Links.{record-back-again}
-use Rattle.model.proofs.Formed.{parent-earlier, source-read, source-earlier, read-inside}
+use Rattle.model.proofs.Facts.{parent-earlier, has-source, source-is-earlier-write, read-inside}
 use Rattle.model.proofs.Renumber.{Renumbering, Alike}
 use Rattle.model.proofs.Carried.{RacesStay, Keeps, keeps}
 use Rattle.model.proofs.Renumbered.{LinksEarlier, well-formed-renumbered}
@@ -43,11 +43,11 @@ module _ (k : ℕ → Bool) (t t′ : Table) (W : WellFormed t) (S : Selection k
   there-and-back n = old-new k (t .count) n
 
   parent-back : (i n : ℕ) → Inside t (f i) → Parent t n (f i) → f (newNumber k n) ≡ n
-  parent-back i n l e = let b = parent-earlier t W (f i) n l e in there-and-back n (omega arith) (complete i l .parent n e)
+  parent-back i n l e = let b = parent-earlier W n (f i) e in there-and-back n (omega arith) (complete i l .parent n e)
 
   source-back : (i n : ℕ) → Inside t (f i) → Source t n (f i) → f (newNumber k n) ≡ n
   source-back i n l e =
-      let b = source-earlier t W (f i) n l e .earlier in
+      let b = source-is-earlier-write W e .earlier in
       there-and-back n (omega arith) (complete i l .source n e)
 
   carried : (i : ℕ) → t .at (f i) ≡ renumbered f (t′ .at i)
@@ -56,7 +56,7 @@ module _ (k : ℕ → Bool) (t t′ : Table) (W : WellFormed t) (S : Selection k
       go : Dec (Inside t′ i) → t .at (f i) ≡ renumbered f (t′ .at i)
       go (yes l) =
           let h = inside-old i l in
-          record-back-again f (newNumber k) (t .at (f i)) (λ n. parent-back i n h) (λ n e. source-back i n h (source-read t W h e))
+          record-back-again f (newNumber k) (t .at (f i)) (λ n. parent-back i n h) (λ n e. source-back i n h (has-source W n (f i) e))
           ∙ ap (renumbered f) (sym (cut-record k t t′ C i l))
       go (no l) =
           let h : ¬ Inside t (f i) = λ b. l (inside-new i b) in
@@ -74,8 +74,8 @@ module _ (k : ℕ → Bool) (t t′ : Table) (W : WellFormed t) (S : Selection k
 
   links-earlier : LinksEarlier t′
   links-earlier = record {
-    parent = λ n p l e. old-rises-back k (t .count) p n (parent-earlier t W (f n) (f p) (inside-old n l) (kept .related .parent-along p n e));
-    source = λ n s l e. old-rises-back k (t .count) s n (source-earlier t W (f n) (f s) (inside-old n l) (kept .related .source-along s n e) .earlier);
+    parent = λ n p l e. old-rises-back k (t .count) p n (parent-earlier W (f p) (f n) (kept .related .parent-along p n e));
+    source = λ n s l e. old-rises-back k (t .count) s n (source-is-earlier-write W (kept .related .source-along s n e) .earlier);
   }
 
   some-record : 0 < t′ .count
@@ -86,7 +86,7 @@ module _ (k : ℕ → Bool) (t t′ : Table) (W : WellFormed t) (S : Selection k
   -- one of the writes that a read stands on is kept
   some-race : (r : ℕ) → StandsOnRace t (f r) → SomeEarlierRace t′ r
   some-race r s =
-      let l = read-inside t (W .ends) (f r) (s .reads) in
+      let l = read-inside W (f r) (s .reads) in
       let (w, (h, race)) = complete r l .racing-write s in
       let b = race .earlier in
       let e = there-and-back w (omega arith) h in

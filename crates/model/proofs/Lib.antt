@@ -15,11 +15,9 @@ pub mod Decide
 pub mod Worked
 pub mod WrongJudges
 pub mod Links
-pub mod Symmetric
-pub mod CarriedCycle
 pub mod Renumber
 pub mod Carried
-pub mod Formed
+pub mod Threads
 pub mod Renumbered
 pub mod CutNumbers
 pub mod Cutting

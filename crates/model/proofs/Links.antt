@@ -1,18 +1,11 @@
--- Links, and records whose links are renumbered.
+-- Records whose links are renumbered.
 use mathlib.Core.Path.{_≡_, refl, sym, ap}
 use Prim.Native.Nat.{ℕ}
-use native.Mathlib.Omega.{arith}
 use Rattle.events.specs.declared.Link.{Link}
 use Rattle.events.specs.declared.Link.the-variants.{Absent, To}
 use Rattle.events.specs.declared.Record.{Record}
 use Rattle.model.specs.Cut.{linkBy, renumbered}
-
-pub absent-not-to : {p : ℕ} → ¬ (Absent ≡ To p)
-absent-not-to e = let z : _≡_ {A = ℕ} 0 1 = cc in omega arith
-
-pub absent-dec : (l : Link) → Dec (l ≡ Absent)
-absent-dec Absent = yes refl
-absent-dec (To p) = no (λ e. absent-not-to (sym e))
+use Rattle.model.proofs.Fields.{absent-to}
 
 -- a link that is the image of another
 pub record LinkBack (f : ℕ → ℕ) (l : Link) (x : ℕ) : Type 0 where
@@ -21,12 +14,12 @@ pub record LinkBack (f : ℕ → ℕ) (l : Link) (x : ℕ) : Type 0 where
   pub is : l ≡ To a
 
 pub link-back : (f : ℕ → ℕ) (l : Link) (x : ℕ) → linkBy f l ≡ To x → LinkBack f l x
-link-back f Absent x e = absurd (absent-not-to e)
+link-back f Absent x e = absurd (absent-to refl e)
 link-back f (To a) x e = record { a = a; image = cc; is = refl }
 
 pub absent-back : (f : ℕ → ℕ) (l : Link) → linkBy f l ≡ Absent → l ≡ Absent
 absent-back f Absent e = refl
-absent-back f (To a) e = absurd (absent-not-to (sym e))
+absent-back f (To a) e = absurd (absent-to refl (sym e))
 
 -- renumbered by g, and back again by f
 link-back-again : (f g : ℕ → ℕ) (l : Link) → ((n : ℕ) → l ≡ To n → f (g n) ≡ n) → l ≡ linkBy f (linkBy g l)

@@ -12,8 +12,8 @@ use Rattle.model.specs.Relations.{Po, AtOrAbove, equal, above}
 use Rattle.model.specs.WellFormed.{WellFormed, Sound, Root, Refused6, no-root, no-parent, parent-not-earlier, other-thread, thread-stood}
 use Rattle.model.specs.WellFormed.{Refused7, no-earlier-write, other-value, known-from-u, known-from-nothing, TwoReads, Refused8, twin}
 use Rattle.model.specs.Cut.{linkBy}
-use Rattle.model.proofs.Symmetric.{one-location-sym}
-use Rattle.model.proofs.Formed.{root, po-earlier, one-init, init-of}
+use Rattle.model.proofs.Facts.{location-sym, root}
+use Rattle.model.proofs.Threads.{po-earlier, one-init, init-of}
 use Rattle.model.proofs.Renumber.{Renumbering, Related, pulled, pulled-is, related-pulled}
 use Rattle.model.proofs.Links.{absent-back}
 
@@ -27,7 +27,7 @@ two-reads-sym : (t : Table) {m n : ℕ} → TwoReads t m n → TwoReads t n m
 two-reads-sym t {m} {n} h = record {
   read-m = h .read-n;
   read-n = h .read-m;
-  one-location = one-location-sym (t .at m .event) (t .at n .event) (h .one-location);
+  one-location = location-sym t m n (h .one-location);
   different = λ e. h .different (sym e);
 }
 
@@ -63,8 +63,8 @@ module _ (t′ t : Table) (f : ℕ → ℕ) (N : Renumbering t′ t f) (W : Well
 
   root-0 : Root p 0
   root-0 = record {
-    init = subst (IsInit t) (sym first-is-first) (root t W .init);
-    thread-0 = ap (thread t) first-is-first ∙ root t W .thread-0;
+    init = subst (IsInit t) (sym first-is-first) (root W .init);
+    thread-0 = ap (thread t) first-is-first ∙ root W .thread-0;
     no-parent = first-no-parent;
   }
 
@@ -72,8 +72,8 @@ module _ (t′ t : Table) (f : ℕ → ℕ) (N : Renumbering t′ t f) (W : Well
   init-first : {m n : ℕ} → Inside p n → IsInit p n → m < n → ¬ (thread p m ≡ thread p n)
   init-first {m} {n} i x l e =
       let j : Inside p m = omega arith in
-      let c = init-of t W (f m) (inside m .0 j) in
-      on (subst (λ (y : ℕ). AtOrAbove t y (f m)) (one-init t W (c .inside) (inside n .0 i) (c .init) x (c .one-thread ∙ e)) (c .at-or-above)) refl
+      let c = init-of W (f m) (inside m .0 j) in
+      on (subst (λ (y : ℕ). AtOrAbove t y (f m)) (one-init W (c .inside) (inside n .0 i) (c .init) x (c .one-thread ∙ e)) (c .at-or-above)) refl
     where
       on : {y : ℕ} → AtOrAbove t (f n) y → y ≡ f m → ⊥
       on (equal k) q = let z = injective n m q in omega arith
