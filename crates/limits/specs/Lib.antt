@@ -1,0 +1,2 @@
+-- How many records a table may have.
+pub mod Limit
