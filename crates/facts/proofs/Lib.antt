@@ -1,0 +1,3 @@
+-- What the bytes of a record that decodes say.
+pub mod Bytes
+pub mod Promise

@@ -1,0 +1,2 @@
+-- What the relations rely on.
+pub mod Sound

@@ -1,0 +1,21 @@
+-- What the reader promises of a table that it lets pass.
+use mathlib.Core.Path.{_≡_}
+use mathlib.Core.List.{List}
+use Prim.Native.Nat.{ℕ, _*_, _<_, _≤_}
+use lib.ListN.{length}
+use Rattle.model.specs.WellFormed.{WellFormed}
+use Rattle.record.specs.declared.Decoded.the-variants.{Good}
+use Rattle.record.specs.Form.{decode, part}
+use Rattle.table.specs.Events.{eventsOf}
+use Rattle.limits.specs.Limit.{limit}
+
+-- the bytes hold a well-formed table within the limit, each record in its sixteen bytes
+pub record SoundTable (b : List ℕ) : Type 0 where
+  pub formed : WellFormed (eventsOf b)
+  pub few : eventsOf b .count ≤ limit
+  pub size : 16 * eventsOf b .count ≡ length b
+  pub decodes : (n : ℕ) → n < eventsOf b .count → decode (part b n) ≡ Good (eventsOf b .at n)
+
+-- what may be asked of: a record of a sound table
+abbrev pub Asked : List ℕ → ℕ → Type 0
+Asked b n = SoundTable b × (n < eventsOf b .count)

@@ -1,0 +1,4 @@
+-- What byte matrices hold, and what the functions on them promise.
+pub mod Matrix
+pub mod Found
+pub mod Relations

@@ -1,0 +1,7 @@
+// Relations on small numbers held in byte matrices: rows, closure, products, owners, least witnesses.
+pub mod closing;
+pub mod owner;
+pub mod product;
+pub mod row;
+pub mod search;
+pub mod whole;

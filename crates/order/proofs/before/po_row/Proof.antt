@@ -1,0 +1,27 @@
+-- `before::po_row` meets its contract: the row is empty, then takes in the parent's.
+use native.Mathlib.Omega.{arith}
+use borrow.Author.Needs.{needs}
+use Rattle.matrix.proofs.Rows.{made-row-iff}
+use Rattle.table.specs.Events.{eventsOf}
+use Rattle.order.proofs.Linking.{parent-leads, parent-falls, falls-place}
+use Rattle.order.proofs.Upward.{row-linked, linked-po, po-linked}
+use Rattle.order.proofs.before.po_row.Statement.{statement}
+use Rattle.order.proofs.before.po_row.Tie as tie
+
+take-in-link-requires : tie.Need-take-in-link-requires
+take-in-link-requires c κs =
+    let q = c .before .before .before .before .before .before .before .before .pre in
+    falls-place (parent-falls _ (c .parent .ensures) (q .matrix .sound .formed)) (q .row) (q .row)
+    (omega (arith, q .matrix .room, c .before .before .before .before .clear-row .kept .0))
+
+returns : tie.Need-returns
+returns c =
+    let s = c .before .before .before .before .before .before .before .before .before .before .before in
+    let t = eventsOf (s .args .table .now) in
+    let parent = c .before .before .before .parent .ensures in
+    let cleared = c .before .before .before .before .before .before .before .clear-row .ensures in
+    made-row-iff (λ a. linked-po t (parent-leads t parent)) (λ a. po-linked t (parent-leads t parent))
+    (row-linked _ (parent-falls t parent (s .pre .matrix .sound .formed)) (s .pre .rows) cleared (c .before .before .take-in-link .ensures))
+
+pub po-row-spec : {M : Type 1} → statement M
+po-row-spec = tie.close (tie.spec (λ c κs. search needs) (λ c κs. search needs) take-in-link-requires (λ c. search needs) returns)

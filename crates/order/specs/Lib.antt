@@ -1,0 +1,3 @@
+-- What the questions on a sound table ask and promise.
+pub mod Asked
+pub mod Links

@@ -1,0 +1,82 @@
+// The sixteen bytes of a record, read and written.
+mod fields;
+pub mod places;
+mod rules;
+mod written;
+
+ghost use mathlib.Core.Path.{_≡_};
+ghost use Prim.Native.Nat.{_+_, _*_, _≤_};
+ghost use lib.ListN.{length};
+ghost use Rattle.record.specs.Form.{decidedBy, decode, part, encode, overwritten};
+use events::Record;
+use places::KIND;
+use places::ORDER;
+use places::SIZE;
+use refusals::Fault;
+pub use written::bytes_of;
+
+// What sixteen bytes are: a record, or which of the refusals 2 to 5 they get.
+pub enum Decoded {
+    Good(Record),
+    Bad(Fault),
+}
+
+// The first test that fails is the answer.
+fn decided(mark: bool, row: bool, rest: bool, range: bool, r: Record) -> Decoded
+    ensures { λ d. ⌜ d ≡ decidedBy mark row rest range r ⌝ }
+{
+    if mark {
+        if row {
+            if rest {
+                if range {
+                    return Decoded::Good(r);
+                }
+                return Decoded::Bad(Fault::Range);
+            }
+            return Decoded::Bad(Fault::Rest);
+        }
+        return Decoded::Bad(Fault::Kind);
+    }
+    Decoded::Bad(Fault::Mark)
+}
+
+// The record that sixteen bytes are.
+pub fn read_part(b: &[u8]) -> Decoded
+    requires { ⌜ length (now b) ≡ 16 ⌝ }
+    ensures { λ r. ⌜ r ≡ decode (now (b .entry)) ⌝ }
+{
+    decided(
+        rules::marked_at(b),
+        rules::in_row(b[KIND], b[ORDER]),
+        rules::rested_at(b),
+        rules::in_range(b),
+        fields::record_from(b),
+    )
+}
+
+// Record n of a table.
+pub fn read_at(table: &[u8], n: usize) -> Decoded
+    requires { ⌜ 16 * n + 16 ≤ length (now table) ⌝ }
+    ensures { λ r. ⌜ r ≡ decode (part (now (table .entry)) n) ⌝ }
+{
+    let at = SIZE * n;
+    read_part(&table[at..at + SIZE])
+}
+
+// Writes a record at its place, and changes no other byte.
+pub fn write_at(table: &mut [u8], n: usize, r: Record)
+    requires { ⌜ 16 * n + 16 ≤ length (now table) ⌝ }
+    ensures { λ _. ⌜ now (table .exit) ≡ overwritten (now (table .entry)) n (encode r) ⌝ }
+{
+    let a = bytes_of(r);
+    let at = SIZE * n;
+    bytes::copy(&a, &mut table[at..at + SIZE]);
+}
+
+// What a record is "as if its bytes were read".
+pub fn decode_of(r: Record) -> Decoded
+    ensures { λ d. ⌜ d ≡ decode (encode r) ⌝ }
+{
+    let a = bytes_of(r);
+    read_part(&a)
+}

@@ -1,0 +1,35 @@
+// Which byte of a record holds what.
+
+// How many bytes a record is.
+pub const SIZE: usize = 16;
+
+pub const KIND: usize = 2;
+
+pub const ORDER: usize = 3;
+
+pub const THREAD: usize = 4;
+
+pub const PARENT: usize = 5;
+
+pub const SOURCE: usize = 6;
+
+pub const LOCATION: usize = 7;
+
+pub const FLAGS: usize = 8;
+
+// The low bytes of the two values; the high bytes stand next to them.
+pub const READ: usize = 10;
+
+pub const WRITTEN: usize = 12;
+
+// The kinds.
+pub const INIT: u8 = 0;
+
+pub const LOAD: u8 = 1;
+
+pub const STORE: u8 = 2;
+
+pub const UPDATE: u8 = 3;
+
+// The byte of a link that leads nowhere.
+pub const NONE: u8 = 255;

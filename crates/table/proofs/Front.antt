@@ -1,0 +1,56 @@
+-- The first records of a list of bytes, as a table of their own: what the test of each says there.
+use mathlib.Core.Path.{_≡_, refl, sym, subst, ap, _∙_}
+use mathlib.Core.List.{List, _++_}
+use Prim.Native.Nat.{ℕ, _+_, _*_, _/_, _%_, _<_, _≤_}
+use native.Mathlib.Omega.{arith}
+use lib.Dec.{T}
+use lib.ListN.{length, take}
+use lib.Seq.{length-take-le, take-all}
+use Rattle.laws.proofs.Says.{says-eq, says-le, says-not, says-and}
+use Rattle.record.specs.Form.{part}
+use Rattle.record.specs.Fits.{Bytes}
+use Rattle.record.proofs.Parts.{part-take, bytes-take}
+use Rattle.table.specs.Events.{countOf}
+use Rattle.limits.specs.Limit.{limit}
+use Rattle.table.specs.Test.{lengthOk, Passes, CheckAnswer}
+use Rattle.table.specs.Computed.{checkedPart}
+use Rattle.table.proofs.Exact.{whole-part, check-exact}
+
+module _ (b : List ℕ) (count : ℕ) (held : 16 * count ≤ length b) where
+  front-length : length (take (16 * count) b) ≡ 16 * count
+  front-length = length-take-le (16 * count) b held
+
+  pub front-count : countOf (take (16 * count) b) ≡ count
+  front-count =
+      let long = front-length in
+      omega arith
+
+  pub front-part : (n : ℕ) → n < count → part b n ≡ part (take (16 * count) b) n
+  front-part n h = sym (part-take b (16 * count) n (omega arith) held)
+
+  pub front-exact :
+      Bytes b → (n : ℕ) → n < count → ((m : ℕ) → m < n → Passes (take (16 * count) b) m) → CheckAnswer (take (16 * count) b) n (checkedPart b n (part b n))
+  front-exact bytes n h passed =
+      let long = front-length in
+      rw (front-part n h)
+      (check-exact b (take (16 * count) b) n
+      (λ m l. front-part m (omega arith))
+      (λ m l. whole-part (take (16 * count) b) m (bytes-take b (16 * count) bytes) (omega arith))
+      (λ m l. passed m l .decodes))
+
+-- ---- a table of a right length is the front of itself
+
+pub record RightLength (len : ℕ) : Type 0 where
+  pub some-bytes : ¬ (len ≡ 0)
+  pub whole-records : len % 16 ≡ 0
+  pub within : len ≤ 16 * limit
+
+pub right-length : (len : ℕ) → T (lengthOk len) → RightLength len
+right-length len h =
+    let (a, (b, c)) = says-and (says-not (says-eq len 0)) (says-and (says-eq (len % 16) 0) (says-le len (16 * limit))) .to h in
+    record { some-bytes = a; whole-records = b; within = c }
+
+pub front-whole : (b : List ℕ) → T (lengthOk (length b)) → take (16 * countOf b) b ≡ b
+front-whole b h =
+    let right = right-length (length b) h in
+    take-all (16 * countOf b) b (omega arith)

@@ -1,0 +1,10 @@
+-- What is proved of a table as bytes.
+pub mod Search
+pub mod Bytewise
+pub mod Pairwise
+pub mod Unique
+pub mod Exact
+pub mod Front
+pub mod WellFormed
+pub mod Written
+pub mod NewRecord

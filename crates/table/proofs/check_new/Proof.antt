@@ -1,0 +1,16 @@
+-- `table::check_new` meets its contract.
+use mathlib.Core.Path.{ap, _∙_}
+use denote.Ref.{now}
+use Rattle.table.specs.Computed.{checkedPart}
+use borrow.Author.Needs.{needs}
+use Rattle.table.proofs.check_new.Statement.{statement}
+use Rattle.table.proofs.check_new.Tie as tie
+
+returns : tie.Need-returns
+returns c =
+    let a = c .before .before .before .before .args in
+    c .check-part .ensures ∙ ap (checkedPart (now (a .table)) (a .n)) (c .before .before .bytes-of .ensures)
+
+pub check-new-spec : {M : Type 1} → statement M
+check-new-spec =
+    tie.close (tie.spec (search needs) (search needs) (search needs) returns)

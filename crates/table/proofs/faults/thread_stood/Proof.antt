@@ -1,0 +1,37 @@
+-- `table::faults::thread_stood` meets its contract: what was found is what a search below m finds.
+use mathlib.Core.Path.{_≡_, refl, ap}
+use Prim.Native.Nat.{ℕ, _-_, _≤_}
+use native.Mathlib.Omega.{arith}
+use lib.Dec.{eqb}
+use borrow.Author.Needs.{needs}
+use Rattle.laws.specs.Says.{anyBelow}
+use Rattle.table.specs.Computed.{stood}
+use Rattle.table.proofs.Search.{any-more}
+use Rattle.table.proofs.faults.thread_stood.Statement.{statement}
+use Rattle.table.proofs.faults.thread_stood.Tie as tie
+
+abbrev Inv-loop : tie.InvT-loop
+Inv-loop table n thread found₀ m₀ found m = (found ≡ stood table m thread) × (m ≤ n)
+
+abbrev μ-loop : tie.MeasureT-loop
+μ-loop table n thread found₀ m₀ found m = n - m
+
+loop-holds : tie.Need-loop-holds Inv-loop μ-loop
+unfolding anyBelow
+loop-holds c = (refl, omega arith)
+
+loop-again : tie.Need-loop-again Inv-loop μ-loop
+loop-again c =
+    let l = c .before .before in
+    let thread = l .before .before .args .thread in
+    (any-more _ _ (l .loop .inv .0) (ap (λ (x : ℕ). eqb x thread) (c .thread-at .ensures)), omega arith)
+
+returns : tie.Need-returns Inv-loop μ-loop
+returns c =
+    let l = c .before .loop in
+    let e : l .m ≡ c .before .before .before .args .n = omega arith in
+    rw (← e) (l .inv .0)
+
+pub thread-stood-spec : {M : Type 1} → statement M
+thread-stood-spec =
+    tie.close (tie.spec Inv-loop μ-loop loop-holds (search needs) (search needs) (search needs) loop-again returns)

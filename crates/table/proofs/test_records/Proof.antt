@@ -1,0 +1,61 @@
+-- `table::test_records` meets its contract: every record below n passes, in the table of the first `count` records.
+use mathlib.Core.Path.{_≡_, sym, subst, _∙_}
+use Prim.Native.Nat.{ℕ, _*_, _-_, _<_, _≤_}
+use native.Mathlib.Omega.{arith}
+use lib.ListN.{take}
+use borrow.Author.Count.{below-more}
+use borrow.Author.Needs.{needs}
+use denote.Ref.{now}
+use Rattle.record.specs.Fits.{Bytes}
+use Rattle.table.specs.declared.Checked.{Checked}
+use Rattle.table.specs.declared.Tested.the-variants.{Sound}
+use Rattle.table.specs.Test.{Passes, CheckAnswer, first-fault, RecordsAnswer, refused, sound}
+use Rattle.table.proofs.Exact.{passes-of, fault-of}
+use Rattle.table.proofs.Front.{front-count, front-exact}
+use Rattle.table.proofs.test_records.Statement.{statement}
+use Rattle.table.proofs.test_records.Tie as tie
+
+abbrev Inv-loop : tie.InvT-loop
+Inv-loop table count n₀ n = ((m : ℕ) → m < n → Passes (take (16 * count) table) m) × (n ≤ count)
+
+abbrev μ-loop : tie.MeasureT-loop
+μ-loop table count n₀ n = count - n
+
+loop-holds : tie.Need-loop-holds Inv-loop μ-loop
+loop-holds c = (λ m h. absurd (omega arith), omega arith)
+
+-- the answer for record n
+checked :
+    (c : tie.After-check-record Inv-loop μ-loop) → CheckAnswer (take (16 * c .before .before .before .before .args .count) (now (c .before .before .before .before .args .table))) (c .before .before .loop .n) (c .check-record .result)
+checked c =
+    let l = c .before .before in
+    let a = l .before .before .args in
+    let bytes : Bytes (now (a .table)) = record { below = λ i. omega (arith, l .before .shared-slice-known .given i) } in
+    subst (CheckAnswer (take (16 * a .count) (now (a .table))) (l .loop .n)) (sym (c .check-record .ensures))
+    (front-exact (now (a .table)) (a .count) (l .before .before .pre) bytes (l .loop .n) (omega arith) (l .loop .inv .0))
+
+loop-again : tie.Need-loop-again Inv-loop μ-loop
+loop-again c =
+    let k = c .before .before in
+    (below-more _ _ (k .before .before .loop .inv .0) (passes-of (rw (c .enum-told .given .1) at (checked k))), omega arith)
+
+returns : tie.Need-returns Inv-loop μ-loop
+returns c =
+    let k = c .before .before .before in
+    let l = k .before .before in
+    let a = l .before .before .args in
+    let held = front-count (now (a .table)) (a .count) (l .before .before .pre) in
+    refused (first-fault {n = l .loop .n} (omega (arith, held)) (l .loop .inv .0) (fault-of (rw (c .before .f .given .1) at (checked k))))
+
+returns-2 : tie.Need-returns-2 Inv-loop μ-loop
+returns-2 c =
+    let l = c .before in
+    let a = l .before .before .args in
+    let held = front-count (now (a .table)) (a .count) (l .before .before .pre) in
+    subst (λ (k : ℕ). RecordsAnswer (take (16 * a .count) (now (a .table))) (Sound k)) held
+    (sound (λ n h. l .loop .inv .0 n (omega (arith, held))))
+
+pub test-records-spec : {M : Type 1} → statement M
+test-records-spec =
+    tie.close
+    (tie.spec Inv-loop μ-loop loop-holds (search needs) (search needs) (search needs) returns (search needs) (search needs) loop-again returns-2)
