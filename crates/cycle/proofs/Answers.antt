@@ -1,16 +1,16 @@
 -- Any two answers are equal, results and bytes; an answer serves every relation with the same steps.
 use mathlib.Core.Path.{_≡_, refl, sym, ap, ap₂, _∙_}
 use mathlib.Core.List.{List, _++_}
-use mathlib.Core.Option.{Option, none, some}
+use mathlib.Core.Option.{none, some}
 use Prim.Native.Nat.{ℕ}
 use native.Mathlib.Omega.{arith}
-use lib.ListN.{length, take, drop}
+use lib.ListN.{length, drop}
 use lib.Seq.{take-at}
 use Rattle.laws.specs.Steps.{Rel}
 use Rattle.laws.specs.Least.{LeastCycle}
 use Rattle.laws.proofs.Least.{cycle-unique, least-cycle-iff}
 use Rattle.cycle.specs.declared.Loop.{Loop}
-use Rattle.cycle.specs.declared.Loop.the-variants.{Cycle, Nothing}
+use Rattle.cycle.specs.declared.Loop.the-variants.{Cycle}
 use Rattle.cycle.specs.Answer.{Answer, Answer.found, Answer.absent, cycleOf}
 
 -- the witness in the bytes is the least cycle

@@ -1,7 +1,7 @@
 -- Tables of distances and the walks of a relation on the numbers below n: relaxing keeps entries sound and makes them complete.
-use mathlib.Core.Path.{_≡_, refl, sym, ap, subst, _∙_}
+use mathlib.Core.Path.{_≡_, ap, _∙_}
 use mathlib.Core.List.{List, [], _∷_, _++_}
-use mathlib.Core.Logic.{_⊎_, inl, inr, ⊎-elim}
+use mathlib.Core.Logic.{_⊎_, inl, inr}
 use Prim.Native.Nat.{ℕ, _+_, _*_, _<_, _≤_}
 use native.Mathlib.Omega.{arith}
 use native.Mathlib.Numerals.{add-one}
@@ -14,7 +14,6 @@ use Rattle.laws.proofs.Steps.{Within}
 use Rattle.laws.proofs.Walks.{Below, Meets, split, joined, walk-below}
 use Rattle.matrix.specs.Matrix.{Cell}
 use Rattle.matrix.proofs.Parts.{place-before}
-use Rattle.matrix.proofs.Cells.{cell-within}
 use Rattle.cycle.specs.Distances.{stepsAt, Reaches, Shortest, Relaxes, FirstSteps, PassDone}
 use Rattle.cycle.proofs.Entries.{same-place, after}
 use Rattle.cycle.proofs.Relaxing.{relaxes-length, relaxes-lower}

@@ -83,7 +83,8 @@ module _ {m d : List ℕ} {n : ℕ} (sh : Shortest (Cell n m) n d) where
 
   -- the last number steps back to the start
   pub writing-end :
-      {a s len : ℕ} {o out : List ℕ} → a < n → s < n → 1 ≤ len → stepsAt d n a s + len ≡ len + 1 → Writing (Cell n m) s len (set o 0 s) out a len → Wrote (Cell n m) s len o out
+      {a s len : ℕ} {o out : List ℕ} → a < n → s < n → 1 ≤ len → stepsAt d n a s + len ≡ len + 1 → Writing (Cell n m) s len (set o 0 s) out a len
+      → Wrote (Cell n m) s len o out
   writing-end {a} {s} {len} {o} ha hs h1 q w =
       record {
         list = w .p ++ [];

@@ -1,6 +1,6 @@
 // The fewest steps from each number to each (Floyd and Warshall).
 ghost use mathlib.Core.Path.{_≡_};
-ghost use Prim.Native.Nat.{ℕ, _+_, _*_, _<_, _≤_};
+ghost use Prim.Native.Nat.{_+_, _*_, _<_, _≤_};
 ghost use lib.ListN.{length};
 ghost use Rattle.matrix.specs.Matrix.{Square, Cell, Place};
 ghost use Rattle.cycle.specs.Distances.{stepsAt, FirstSteps, Lowered, RowDone, PassDone, Shortest};

@@ -1,9 +1,7 @@
 // The least start, and from there the least next record again and again.
 use crate::distance::steps;
 use matrix::row::has;
-ghost use mathlib.Core.Path.{_≡_};
-ghost use Prim.Native.Nat.{ℕ, _<_, _≤_};
-ghost use lib.ListN.{length};
+ghost use Prim.Native.Nat.{_<_};
 ghost use Rattle.matrix.specs.Matrix.{Square, Cell};
 ghost use Rattle.cycle.specs.Distances.{StartOf, NextOf, Writes, Wrote};
 

@@ -9,7 +9,7 @@ use crate::greedy::least_start;
 use crate::greedy::write_cycle;
 use crate::rank::no_cycle;
 use limits::LIMIT;
-ghost use Prim.Native.Nat.{ℕ, _*_, _≤_};
+ghost use Prim.Native.Nat.{_*_, _≤_};
 ghost use lib.ListN.{length};
 ghost use Rattle.matrix.specs.Matrix.{Square, Cell};
 ghost use Rattle.cycle.specs.Answer.{Answer};

@@ -1,13 +1,13 @@
 -- What a matrix says, and the relation that it holds.
-use mathlib.Core.Path.{_≡_, refl, sym, ap, subst, _∙_}
+use mathlib.Core.Path.{_≡_, sym, ap, subst, _∙_}
 use mathlib.Core.Bool.{Bool}
 use mathlib.Core.List.{List}
-use mathlib.Core.Logic.{_↔_}
-use Prim.Native.Nat.{ℕ, _+_, _*_, _/_, _%_, _≤_, _<_}
+use mathlib.Core.Logic.{_↔_, _⊎_, ⊎-map}
+use Prim.Native.Nat.{ℕ, _+_, _*_, _/_, _%_, _<_}
 use native.Mathlib.Nat.{zero-add, zero-mul, not-suc-le-zero, pos-of-ne-zero, div-lt-iff-lt-mul, mod-lt, div-add-mod'}
 use native.Mathlib.Omega.{arith}
 use native.Mathlib.Decide.{decLt}
-use lib.ListN.{length, getD}
+use lib.ListN.{getD}
 use lib.Seq.{ext-getD}
 use Rattle.laws.specs.Says.{Says}
 use Rattle.laws.proofs.Says.{says-iff}
@@ -35,9 +35,14 @@ of-row {a = a} r c = bit-yes (r .cell a (c .col)) (c .is1)
 pub row-of : {n a b : ℕ} {S : ℕ → Type 0} {m : List ℕ} → Row n n S m b → a < n → b < n → S a → Cell n m a b
 row-of {a = a} r h l s = record { col = h; row = l; is1 = bit-is (r .cell a h) s }
 
--- so a test of the matrix tells what the row holds
+-- so a test of the matrix tells what the row holds, also of a row of which only the first k bytes are made
+pub says-part :
+    {n k a b : ℕ} {S : ℕ → Type 0} {m : List ℕ} {t : Bool} → Row n k S m b → a < k → a < n → b < n → Says t (Cell n m a b) → Says t (S a)
+says-part {a = a} r g h l =
+    says-iff (λ c. bit-yes (r .cell a g) (c .is1)) (λ s. record { col = h; row = l; is1 = bit-is (r .cell a g) s })
+
 pub says-row : {n a b : ℕ} {S : ℕ → Type 0} {m : List ℕ} {t : Bool} → Row n n S m b → a < n → b < n → Says t (Cell n m a b) → Says t (S a)
-says-row r h l = says-iff (of-row r) (row-of r h l)
+says-row r h = says-part r h h
 
 -- the same of a matrix that holds R
 pub of-cell : {n : ℕ} {R : ℕ → ℕ → Type 0} {m : List ℕ} → Holds n R m → {a b : ℕ} → Cell n m a b → R a b
@@ -64,14 +69,26 @@ pub bits-of : {n : ℕ} {R : ℕ → ℕ → Type 0} {m : List ℕ} → Holds n 
 bits-of r = record { row = λ b l. row-cells l (r .row b l) }
 
 -- a matrix that is written byte by byte
-pub made-filled : {f : ℕ → ℕ} {n : ℕ} {R : ℕ → ℕ → Type 0} {m m′ : List ℕ} → ((a b : ℕ) → a < n → b < n → Bit (R a b) (f (b * n + a))) → Filled f 0 (n * n) m m′ → Made n n R m m′
+pub made-filled :
+    {f : ℕ → ℕ} {n : ℕ} {R : ℕ → ℕ → Type 0} {m m′ : List ℕ} → ((a b : ℕ) → a < n → b < n → Bit (R a b) (f (b * n + a))) → Filled f 0 (n * n) m m′
+    → Made n n R m m′
 made-filled {n = n} s p = record {
   rest = rw zero-add at (p .rest);
   rows = record { row = λ b l. record { cell = λ a h. bit-at (rw zero-add at (p .part (b * n + a) (place-before n h l))) (s a b h l) } };
 }
 
-pub made-iff : {n h : ℕ} {R S : ℕ → ℕ → Type 0} {m m′ : List ℕ} → ((a b : ℕ) → a < n → b < h → R a b → S a b) → ((a b : ℕ) → a < n → b < h → S a b → R a b) → Made n h R m m′ → Made n h S m m′
+pub made-iff :
+    {n h : ℕ} {R S : ℕ → ℕ → Type 0} {m m′ : List ℕ} → ((a b : ℕ) → a < n → b < h → R a b → S a b) → ((a b : ℕ) → a < n → b < h → S a b → R a b)
+    → Made n h R m m′ → Made n h S m m′
 made-iff f g p = record { rest = p .rest; rows = rows-iff f g (p .rows) }
+
+-- matrices that hold R and S, joined and met
+module _ {n : ℕ} {R S : ℕ → ℕ → Type 0} {m x m′ : List ℕ} (r : Holds n R m) (s : Holds n S x) where
+  pub either-holds : Made n n (λ a b. Cell n m a b ⊎ Cell n x a b) m m′ → Holds n (λ a b. R a b ⊎ S a b) m′
+  either-holds p = rows-iff (λ a b _ _. ⊎-map (of-cell r) (of-cell s)) (λ a b h l. ⊎-map (cell-of r h l) (cell-of s h l)) (p .rows)
+
+  pub both-holds : Made n n (λ a b. Cell n m a b × Cell n x a b) m m′ → Holds n (λ a b. R a b × S a b) m′
+  both-holds p = rows-iff (λ a b _ _ z. (of-cell r (z .0), of-cell s (z .1))) (λ a b h l z. (cell-of r h l (z .0), cell-of s h l (z .1))) (p .rows)
 
 -- one result only
 pub made-one : (n : ℕ) {R : ℕ → ℕ → Type 0} {m m₁ m₂ : List ℕ} → Made n n R m m₁ → Made n n R m m₂ → m₁ ≡ m₂

@@ -77,7 +77,9 @@ module _ (owner : List ℕ) {n b : ℕ} {x m₀ : List ℕ} where
           (bit-iff (gain-with (λ q. (sym e, q))) (gain-less (λ z. z .1)) (bit-or (bit-at (ap (λ (z : ℕ). getD m (b * n + z) 0) (sym e)) (p .row .cell a g)) (r .cell k l)))
       by a g (no ne) = bit-at (getD-set-other m at (b * n + a) v 0 (λ e. ne (omega (arith, e)))) (bit-iff gain-up (gain-down (λ z. ne (sym (z .0)))) (p .row .cell a g))
 
-  pub scattering-same : {k : ℕ} {m : List ℕ} → n ≤ getD owner k 0 → MadeRow n n b (Scattering n owner x m₀ b k) m₀ m → MadeRow n n b (Scattering n owner x m₀ b (k + 1)) m₀ m
+  pub scattering-same :
+      {k : ℕ} {m : List ℕ} → n ≤ getD owner k 0 → MadeRow n n b (Scattering n owner x m₀ b k) m₀ m
+      → MadeRow n n b (Scattering n owner x m₀ b (k + 1)) m₀ m
   scattering-same h p =
       record { rest = p .rest; row = record { cell = λ a l. bit-iff gain-up (gain-down (λ z. omega (arith, z .0))) (p .row .cell a l) } }
 
@@ -91,8 +93,8 @@ abbrev pub WithOwners : ℕ → List ℕ → List ℕ → List ℕ → ℕ → �
 WithOwners n owner x m a b = Cell n m a b ⊎ Scattered owner (Cell n x) a b
 
 pub scattered-more :
-    (owner : List ℕ) {n i : ℕ} {x m₀ m m′ : List ℕ} → i < n → MadeRow n n i (λ a. WithOwners n owner x m a i) m m′ → Phase n i (WithOwners n owner x m₀) (Cell n m₀) m₀ m
-    → Phase n (i + 1) (WithOwners n owner x m₀) (Cell n m₀) m₀ m′
+    (owner : List ℕ) {n i : ℕ} {x m₀ m m′ : List ℕ} → i < n → MadeRow n n i (λ a. WithOwners n owner x m a i) m m′
+    → Phase n i (WithOwners n owner x m₀) (Cell n m₀) m₀ m → Phase n (i + 1) (WithOwners n owner x m₀) (Cell n m₀) m₀ m′
 scattered-more owner {i = i} l r p =
     let here = p .todo i (omega arith) l in
     phase-more l (made-row-iff (λ a. ⊎-map (of-row here) (λ z. z)) (λ a. ⊎-map (λ c. row-of here (c .col) l c) (λ z. z)) r) p

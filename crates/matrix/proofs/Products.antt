@@ -1,6 +1,6 @@
 -- One relation after another, row by row.
 use mathlib.Core.List.{List}
-use mathlib.Core.Logic.{_⊎_, inl, inr, ⊎-elim}
+use mathlib.Core.Logic.{_⊎_, ⊎-elim}
 use Prim.Native.Nat.{ℕ, _+_}
 use Rattle.laws.proofs.Steps.{Within}
 use Rattle.matrix.specs.Matrix.{Row, Holds, Cell, Bits, Joined, MadeRow, Made}
@@ -19,7 +19,8 @@ composing-none r = record { rest = outside-none; row = row-iff (λ a z. absurd z
 
 module _ {n b : ℕ} {x y m₀ m : List ℕ} where
   pub composing-more :
-      {k : ℕ} {m′ : List ℕ} → Bits n x → Cell n y k b → MadeRow n n b (Composing n x y b k) m₀ m → Joined n b k x m m′ → MadeRow n n b (Composing n x y b (k + 1)) m₀ m′
+      {k : ℕ} {m′ : List ℕ} → Bits n x → Cell n y k b → MadeRow n n b (Composing n x y b k) m₀ m → Joined n b k x m m′
+      → MadeRow n n b (Composing n x y b (k + 1)) m₀ m′
   composing-more {k} r s p j = made-row-trans p (row-gains (λ a q. (q, s)) (λ a z. z .0) (r .row k (s .col)) (p .row) j)
 
   pub composing-same : {k : ℕ} → ¬ Cell n y k b → MadeRow n n b (Composing n x y b k) m₀ m → MadeRow n n b (Composing n x y b (k + 1)) m₀ m
@@ -33,7 +34,8 @@ module _ {n b : ℕ} {x y m₀ m : List ℕ} where
 
 -- the product of matrices that hold R and S holds R, then S
 pub composed-holds :
-    {n : ℕ} {R S : ℕ → ℕ → Type 0} {x y m m′ : List ℕ} → Within n R → Holds n R x → Holds n S y → Made n n (Composed (Cell n x) (Cell n y)) m m′ → Holds n (Composed R S) m′
+    {n : ℕ} {R S : ℕ → ℕ → Type 0} {x y m m′ : List ℕ} → Within n R → Holds n R x → Holds n S y → Made n n (Composed (Cell n x) (Cell n y)) m m′
+    → Holds n (Composed R S) m′
 composed-holds w r s p =
     rows-iff
     (λ a b _ _ z. record { mid = z .mid; first = of-cell r (z .first); then = of-cell s (z .then) })

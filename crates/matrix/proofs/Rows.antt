@@ -1,11 +1,11 @@
 -- Rows that are made, one byte or one row after the other.
-use mathlib.Core.Path.{_≡_, refl, sym, ap, subst, _∙_}
+use mathlib.Core.Path.{_≡_, ap, _∙_}
 use mathlib.Core.Bool.{Bool}
 use mathlib.Core.List.{List}
 use mathlib.Core.Logic.{_⊎_, inl, inr, ⊎-elim}
 use Prim.Native.Nat.{ℕ, _+_, _*_, _≤_, _<_}
 use native.Mathlib.Omega.{arith}
-use native.Mathlib.Decide.{decLt, ℕ-discrete}
+use native.Mathlib.Decide.{ℕ-discrete}
 use lib.ListN.{length, getD, set}
 use lib.Seq.{getD-set-same, getD-set-other}
 use borrow.Author.Count.{below-more}
@@ -18,7 +18,9 @@ pub row-iff : {w n b : ℕ} {S T : ℕ → Type 0} {m : List ℕ} → ((a : ℕ)
 row-iff f g r = record { cell = λ a l. bit-iff (f a) (g a) (r .cell a l) }
 
 -- a row that is written byte by byte
-pub row-filled : (w b : ℕ) {f : ℕ → ℕ} {n : ℕ} {S : ℕ → Type 0} {m m′ : List ℕ} → ((a : ℕ) → a < n → Bit (S a) (f a)) → Filled f (b * w) n m m′ → MadeRow w n b S m m′
+pub row-filled :
+    (w b : ℕ) {f : ℕ → ℕ} {n : ℕ} {S : ℕ → Type 0} {m m′ : List ℕ} → ((a : ℕ) → a < n → Bit (S a) (f a)) → Filled f (b * w) n m m′
+    → MadeRow w n b S m m′
 row-filled w b s p = record { rest = p .rest; row = record { cell = λ a l. bit-at (p .part a l) (s a l) } }
 
 -- a row that took in another
@@ -26,7 +28,9 @@ pub row-joined : {n : ℕ} (b s : ℕ) {S T : ℕ → Type 0} {x m m′ : List �
 row-joined {n} b s rb rs = row-filled n b (λ a l. bit-or (rb .cell a l) (rs .cell a l))
 
 -- a row that took in another and its number
-pub row-stepped : {n b s : ℕ} {S T : ℕ → Type 0} {m m′ : List ℕ} → Row n n T m b → Row n n S m s → Stepped n b s m m′ → MadeRow n n b (λ a. T a ⊎ (S a ⊎ (a ≡ s))) m m′
+pub row-stepped :
+    {n b s : ℕ} {S T : ℕ → Type 0} {m m′ : List ℕ} → Row n n T m b → Row n n S m s → Stepped n b s m m′
+    → MadeRow n n b (λ a. T a ⊎ (S a ⊎ (a ≡ s))) m m′
 row-stepped {n} {b} {s} {S} {T} {m} {m′} rb rs t = record { rest = t .rest; row = record { cell = λ a l. by a l (ℕ-discrete a s) } }
   where
     by : (a : ℕ) → a < n → Dec (a ≡ s) → Bit (T a ⊎ (S a ⊎ (a ≡ s))) (getD m′ (b * n + a) 0)
@@ -37,7 +41,8 @@ row-stepped {n} {b} {s} {S} {T} {m} {m′} rb rs t = record { rest = t .rest; ro
 
 -- one byte more of a row
 pub made-set :
-    {w a b : ℕ} {S : ℕ → Type 0} {m₀ m : List ℕ} (v : ℕ) → b * w + a < length m₀ → Bit (S a) v → MadeRow w a b S m₀ m → MadeRow w (a + 1) b S m₀ (set m (b * w + a) v)
+    {w a b : ℕ} {S : ℕ → Type 0} {m₀ m : List ℕ} (v : ℕ) → b * w + a < length m₀ → Bit (S a) v → MadeRow w a b S m₀ m
+    → MadeRow w (a + 1) b S m₀ (set m (b * w + a) v)
 made-set {w} {a} {b} {S} {m₀} {m} v l t k = record {
   rest = outside-set (b * w + a) v (omega arith) (omega arith) (outside-wider (omega arith) (omega arith) (k .rest));
   row = record {
@@ -50,7 +55,8 @@ made-set {w} {a} {b} {S} {m₀} {m} v l t k = record {
 
 -- the same by a test
 pub made-put :
-    {n a b : ℕ} {S : ℕ → Type 0} {m₀ m : List ℕ} {t : Bool} → Place n m a b → Says t (S a) → MadeRow n a b S m₀ m → MadeRow n (a + 1) b S m₀ (set m (b * n + a) (bitOf t))
+    {n a b : ℕ} {S : ℕ → Type 0} {m₀ m : List ℕ} {t : Bool} → Place n m a b → Says t (S a) → MadeRow n a b S m₀ m
+    → MadeRow n (a + 1) b S m₀ (set m (b * n + a) (bitOf t))
 made-put {n} p s k = made-set _ (omega (arith, place-before n (p .col) (p .row), p .room, k .rest .size)) (bit-says s) k
 
 pub made-row-none : {w b : ℕ} {S : ℕ → Type 0} {m : List ℕ} → MadeRow w 0 b S m m
@@ -65,6 +71,10 @@ row-kept {w} {n} {c} {m = m} {m′ = m′} b nw ne o r = record { cell = λ a l.
     by a l (inr (inl h)) = o .below (c * w + a) (omega arith)
     by a l (inr (inr h)) = o .past (c * w + a) (omega arith)
 
+-- and so are the rows before it
+pub rows-kept : {n h : ℕ} {R : ℕ → ℕ → Type 0} {m m′ : List ℕ} (b : ℕ) → h ≤ b → Outside (b * n) (b * n + n) m m′ → Rows n h R m → Rows n h R m′
+rows-kept b l o r = record { row = λ c h. row-kept b (omega arith) (λ e. omega (arith, e)) o (r .row c h) }
+
 pub made-none : {n : ℕ} {R : ℕ → ℕ → Type 0} {m : List ℕ} → Made n 0 R m m
 made-none = record { rest = outside-none; rows = record { row = λ b l. absurd (omega arith) } }
 
@@ -74,7 +84,7 @@ made-more {n} {h} {R} {m₀} {m} {m′} k r =
     let e = row-before n {s = h} {b = h + 1} (omega arith) in
     record {
       rest = outside-trans (outside-wider (omega arith) (omega arith) (k .rest)) (outside-wider (omega arith) (omega arith) (r .rest));
-      rows = record { row = below-more (λ b. Row n n (λ a. R a b) m′ b) h (λ b l. row-kept h (omega arith) (λ e. omega (arith, e)) (r .rest) (k .rows .row b l)) (r .row) };
+      rows = record { row = below-more (λ b. Row n n (λ a. R a b) m′ b) h (rows-kept h (omega arith) (r .rest) (k .rows) .row) (r .row) };
     }
 
 -- a row is joined and one byte of it is set

@@ -2,7 +2,7 @@
 use crate::row::has;
 use crate::row::join_row;
 ghost use mathlib.Core.Logic.{_⊎_};
-ghost use Prim.Native.Nat.{ℕ, _<_};
+ghost use Prim.Native.Nat.{_<_};
 ghost use Rattle.laws.specs.Steps.{Plus};
 ghost use Rattle.matrix.specs.Matrix.{Cell, IsMatrix, Made};
 

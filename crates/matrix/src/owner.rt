@@ -1,9 +1,8 @@
 // Steps handed on to owners. A column names the owner of each number; a number that is not below n is none.
 use crate::row::join_row_of;
 ghost use mathlib.Core.Logic.{_⊎_};
-ghost use Prim.Native.Nat.{ℕ, _<_, _≤_};
-ghost use lib.ListN.{length};
-ghost use Rattle.matrix.specs.Matrix.{Cell, IsMatrix, MadeRow, Made};
+ghost use Prim.Native.Nat.{_<_};
+ghost use Rattle.matrix.specs.Matrix.{Cell, MadeRow, Made};
 ghost use Rattle.matrix.specs.Relations.{Owners, Gathered, Scattered};
 
 // What leads to v leads to v's owner too.

@@ -2,7 +2,7 @@
 use crate::row::clear_row;
 use crate::row::has;
 use crate::row::join_row_of;
-ghost use Prim.Native.Nat.{ℕ, _<_};
+ghost use Prim.Native.Nat.{_<_};
 ghost use Rattle.matrix.specs.Matrix.{Square, Cell, IsMatrix, MadeRow, Made};
 ghost use Rattle.matrix.specs.Relations.{Composed};
 

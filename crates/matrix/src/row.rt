@@ -1,7 +1,7 @@
 // Cells and rows of byte matrices.
 ghost use mathlib.Core.Path.{_≡_};
-ghost use Prim.Native.Nat.{ℕ, _+_, _*_, _<_, _≤_};
-ghost use lib.ListN.{length, set};
+ghost use Prim.Native.Nat.{_+_, _*_, _<_};
+ghost use lib.ListN.{set};
 ghost use Rattle.laws.specs.Says.{Says};
 ghost use Rattle.matrix.specs.Matrix.{Square, bitOf, Cell, Place, Joined, Stepped, MadeRow};
 

@@ -1,6 +1,6 @@
 // The least number that is set, and the least pair that is related.
 use crate::row::has;
-ghost use Prim.Native.Nat.{ℕ, _≤_};
+ghost use Prim.Native.Nat.{_≤_};
 ghost use lib.ListN.{length};
 ghost use Rattle.laws.specs.Least.{LeastNumber, LeastPair};
 ghost use Rattle.matrix.specs.Matrix.{Square, Cell};

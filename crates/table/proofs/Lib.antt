@@ -8,3 +8,5 @@ pub mod Front
 pub mod WellFormed
 pub mod Written
 pub mod NewRecord
+pub mod Fetching
+pub mod Edges

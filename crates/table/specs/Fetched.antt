@@ -1,9 +1,12 @@
 -- Fetching a record: its own sixteen bytes or an empty part, and whether the fetch is refused.
+use mathlib.Core.Path.{_≡_}
+use mathlib.Core.Bool.{_&&_}
 use mathlib.Core.List.{List, []}
-use Prim.Native.Nat.{ℕ, _/_}
-use lib.Dec.{ltb}
+use Prim.Native.Nat.{ℕ, _<_, _≤_}
+use lib.Dec.{T, ltb}
 use lib.ListN.{length}
-use Rattle.refusals.specs.declared.Refusal.the-variants.{Length, Past}
+use Rattle.refusals.specs.declared.Refusal.{Refusal}
+use Rattle.refusals.specs.Numbers.{numberOf, placeOf}
 use Rattle.record.specs.Form.{pick, part}
 use Rattle.table.specs.declared.Asked.{Asked}
 use Rattle.table.specs.declared.Asked.the-variants.{Given, Refused}
@@ -12,8 +15,11 @@ use Rattle.table.specs.Test.{lengthOk}
 
 -- "hands back the record's own sixteen bytes in the caller's table, or an empty part"
 unfoldable pub fetched : List ℕ → ℕ → List ℕ
-fetched b n = pick (lengthOk (length b)) (pick (ltb n (countOf b)) (part b n) []) []
+fetched b n = pick (lengthOk (length b) && ltb n (countOf b)) (part b n) []
 
 -- "says whether the fetch is refused, and gives 1 or 13 with the place. Only those two are tested, in that order."
-unfoldable pub asked : List ℕ → ℕ → Asked
-asked b n = pick (lengthOk (length b)) (pick (ltb n (countOf b)) Given (Refused (Past n))) (Refused Length)
+pub data FetchAnswer (b : List ℕ) (n : ℕ) : Asked → Type 0 where
+  given : T (lengthOk (length b)) → n < countOf b → FetchAnswer b n Given
+  refused-1 : {r : Refusal} → ¬ T (lengthOk (length b)) → numberOf r ≡ 1 → placeOf r ≡ 0 → FetchAnswer b n (Refused r)
+  refused-13 :
+      {r : Refusal} → T (lengthOk (length b)) → countOf b ≤ n → numberOf r ≡ 13 → placeOf r ≡ n → FetchAnswer b n (Refused r)

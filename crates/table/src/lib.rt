@@ -9,7 +9,7 @@ ghost use lib.ListN.{length, take};
 ghost use Rattle.record.specs.Form.{part};
 ghost use Rattle.table.specs.Computed.{judged, checkedPart, checkedNew};
 ghost use Rattle.table.specs.Events.{recordOf, eventsOf};
-ghost use Rattle.table.specs.Fetched.{fetched, asked};
+ghost use Rattle.table.specs.Fetched.{fetched, FetchAnswer};
 ghost use Rattle.table.specs.Part.{Against};
 ghost use Rattle.table.specs.Test.{lengthOk, RecordsAnswer, TestAnswer};
 use events::Event;
@@ -142,23 +142,9 @@ pub fn record_at(table: &[u8], n: usize) -> Record
     record_of(record::read_at(table, n))
 }
 
-// Record n's own sixteen bytes, or an empty part.
-pub fn fetch(table: &[u8], n: usize) -> &[u8]
-    ensures { λ r. ⌜ now r ≡ fetched (now (table .entry)) n ⌝ }
-{
-    let len = table.len();
-    if length_ok(len) {
-        if n < len / SIZE {
-            return faults::part_at(table, n);
-        }
-        return &table[..0];
-    }
-    &table[..0]
-}
-
-// Whether that fetch is refused.
+// Whether a fetch of record n is refused, by 1 or by 13.
 pub fn refusal_of_fetch(table: &[u8], n: usize) -> Asked
-    ensures { λ r. ⌜ r ≡ asked (now (table .entry)) n ⌝ }
+    ensures { λ r. ⌜ FetchAnswer (now (table .entry)) n r ⌝ }
 {
     let len = table.len();
     if length_ok(len) {
@@ -168,4 +154,14 @@ pub fn refusal_of_fetch(table: &[u8], n: usize) -> Asked
         return Asked::Refused(Refusal::Past(n));
     }
     Asked::Refused(Refusal::Length)
+}
+
+// Record n's own sixteen bytes, or an empty part where the fetch is refused.
+pub fn fetch(table: &[u8], n: usize) -> &[u8]
+    ensures { λ r. ⌜ now r ≡ fetched (now (table .entry)) n ⌝ }
+{
+    match refusal_of_fetch(table, n) {
+        Asked::Given => faults::part_at(table, n),
+        Asked::Refused(_) => &table[..0],
+    }
 }

@@ -1,23 +1,25 @@
--- `table::fetch` meets its contract: each way out rewrites by the tests that led there.
-use mathlib.Core.Path.{sym, _∙_}
-use borrow.Author.Tests.{lt-ltb, le-ltb}
-use Rattle.table.specs.Fetched.{fetched}
+-- `table::fetch` meets its contract: by what the second question says.
+use mathlib.Core.Path.{_∙_}
+use native.Mathlib.Omega.{arith}
 use borrow.Author.Needs.{needs}
+use Rattle.table.proofs.Fetching.{fetched-given, fetched-refused, given-below}
 use Rattle.table.proofs.fetch.Statement.{statement}
 use Rattle.table.proofs.fetch.Tie as tie
 
+part-at-requires : tie.Need-part-at-requires
+part-at-requires c κs =
+    let below = given-below (rw (c .enum-told .given .1) at (c .before .before .refusal-of-fetch .ensures)) in
+    omega arith
+
 returns : tie.Need-returns
-unfolding fetched
-returns c = simp (sym (c .before .before .before .length-ok .ensures) ∙ c .before .before .if1 .taken, lt-ltb _ _ (c .before .if2 .taken), c .part-at .ensures .is)
+returns c =
+    let told = c .before in
+    c .part-at .ensures .is ∙ fetched-given (rw (told .enum-told .given .1) at (told .before .before .refusal-of-fetch .ensures))
 
 returns-2 : tie.Need-returns-2
-unfolding fetched
-returns-2 c = simp (sym (c .before .before .before .length-ok .ensures) ∙ c .before .before .if1 .taken, le-ltb _ _ (c .before .if2 .left))
-
-returns-3 : tie.Need-returns-3
-unfolding fetched
-returns-3 c = simp (sym (c .before .before .length-ok .ensures) ∙ c .before .if1 .left)
+returns-2 c =
+    let told = c .before in
+    fetched-refused (rw (told .enum-told2 .given .1) at (told .before .before .refusal-of-fetch .ensures))
 
 pub fetch-spec : {M : Type 1} → statement M
-fetch-spec =
-    tie.close (tie.spec (search needs) (search needs) returns (search needs) returns-2 (search needs) returns-3)
+fetch-spec = tie.close (tie.spec (search needs) (search needs) part-at-requires (search needs) (search needs) returns returns-2)

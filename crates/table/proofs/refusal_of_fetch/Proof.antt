@@ -1,23 +1,28 @@
--- `table::refusal_of_fetch` meets its contract: each way out rewrites by the tests that led there.
-use mathlib.Core.Path.{sym, _∙_}
-use borrow.Author.Tests.{lt-ltb, le-ltb}
-use Rattle.table.specs.Fetched.{asked}
+-- `table::refusal_of_fetch` meets its contract: each way out has the tests that led there.
+use mathlib.Core.Path.{refl, sym, _∙_}
+use lib.ListN.{length}
 use borrow.Author.Needs.{needs}
+use denote.Ref.{now}
+use Rattle.laws.proofs.Says.{said, denied, says-T}
+use Rattle.table.specs.Test.{lengthOk}
+use Rattle.table.specs.Fetched.{given, refused-1, refused-13}
 use Rattle.table.proofs.refusal_of_fetch.Statement.{statement}
 use Rattle.table.proofs.refusal_of_fetch.Tie as tie
 
 returns : tie.Need-returns
-unfolding asked
-returns c = simp (sym (c .before .before .length-ok .ensures) ∙ c .before .if1 .taken, lt-ltb _ _ (c .if2 .taken))
+returns c =
+    let k = c .before .before in
+    given (said (says-T (lengthOk (length (now (k .before .before .args .table))))) (sym (k .length-ok .ensures) ∙ c .before .if1 .taken)) (c .if2 .taken)
 
 returns-2 : tie.Need-returns-2
-unfolding asked
-returns-2 c = simp (sym (c .before .before .length-ok .ensures) ∙ c .before .if1 .taken, le-ltb _ _ (c .if2 .left))
+returns-2 c =
+    let k = c .before .before in
+    refused-13 (said (says-T (lengthOk (length (now (k .before .before .args .table))))) (sym (k .length-ok .ensures) ∙ c .before .if1 .taken)) (c .if2 .left) refl refl
 
 returns-3 : tie.Need-returns-3
-unfolding asked
-returns-3 c = simp (sym (c .before .length-ok .ensures) ∙ c .if1 .left)
+returns-3 c =
+    let k = c .before in
+    refused-1 (denied (says-T (lengthOk (length (now (k .before .before .args .table))))) (sym (k .length-ok .ensures) ∙ c .if1 .left)) refl refl
 
 pub refusal-of-fetch-spec : {M : Type 1} → statement M
-refusal-of-fetch-spec =
-    tie.close (tie.spec (search needs) returns returns-2 returns-3)
+refusal-of-fetch-spec = tie.close (tie.spec (search needs) returns returns-2 returns-3)

@@ -1,5 +1,5 @@
 -- `distance::relax_pass` meets its contract: the first b rows are done.
-use mathlib.Core.Path.{_≡_, refl, sym, _∙_}
+use mathlib.Core.Path.{_≡_, refl, _∙_}
 use mathlib.Core.Logic.{⊎-elim}
 use Prim.Native.Nat.{_-_, _≤_}
 use native.Mathlib.Omega.{arith}
@@ -14,12 +14,6 @@ Inv-loop dist₀ n k b₀ dist b = (b ≤ n) × (length dist ≡ length dist₀)
 
 abbrev μ-loop : tie.MeasureT-loop
 μ-loop dist₀ n k b₀ dist b = n - b
-
-steps-requires : tie.Need-steps-requires Inv-loop μ-loop
-steps-requires c κs = record { room = omega arith; col = omega arith; row = omega arith }
-
-relax-row-requires : tie.Need-relax-row-requires Inv-loop μ-loop
-relax-row-requires c κs = record { room = omega arith; col = omega arith; row = omega arith }
 
 loop-again : tie.Need-loop-again Inv-loop μ-loop
 loop-again c =
@@ -38,5 +32,5 @@ returns c =
 pub relax-pass-spec : {M : Type 1} → statement M
 relax-pass-spec =
     tie.close
-    (tie.spec Inv-loop μ-loop (λ c. (omega arith, refl, pass-none)) steps-requires relax-row-requires (λ c. omega arith) (λ c. omega arith) loop-again
+    (tie.spec Inv-loop μ-loop (λ c. (omega arith, refl, pass-none)) (λ c κs. omega arith) (λ c κs. omega arith) (λ c. omega arith) (λ c. omega arith) loop-again
     (λ c. c .before .loop .inv .1) returns)

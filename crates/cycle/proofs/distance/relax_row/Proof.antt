@@ -18,12 +18,6 @@ abbrev μ-loop : tie.MeasureT-loop
 loop-holds : tie.Need-loop-holds Inv-loop μ-loop
 loop-holds c = (omega arith, refl, row-none, sym (c .steps .ensures .0))
 
-place : tie.Need-steps-requires-2 Inv-loop μ-loop
-place c κs = record { room = omega arith; col = omega arith; row = omega arith }
-
-lower-requires : tie.Need-lower-requires Inv-loop μ-loop
-lower-requires c κs = record { room = omega arith; col = omega arith; row = omega arith }
-
 loop-again : tie.Need-loop-again Inv-loop μ-loop
 loop-again c =
     let l = c .before .before .before .before .before .before .before .loop .inv in
@@ -44,5 +38,5 @@ returns c =
 pub relax-row-spec : {M : Type 1} → statement M
 relax-row-spec =
     tie.close
-    (tie.spec Inv-loop μ-loop (λ c κs. search needs) loop-holds place (λ c. omega arith) lower-requires (λ c. omega arith) (λ c. omega arith) loop-again
+    (tie.spec Inv-loop μ-loop (λ c κs. search needs) loop-holds (λ c κs. omega arith) (λ c. omega arith) (λ c κs. omega arith) (λ c. omega arith) (λ c. omega arith) loop-again
     (λ c. c .before .loop .inv .1) returns)

@@ -1,5 +1,5 @@
 -- `greedy::least_start` meets its contract: `best` is the fewest of those below s, and `at` the first that has it.
-use mathlib.Core.Path.{_≡_, sym, _∙_}
+use mathlib.Core.Path.{_≡_, _∙_}
 use mathlib.Core.Logic.{⊎-elim}
 use Prim.Native.Nat.{_-_, _≤_}
 use native.Mathlib.Omega.{arith}
@@ -12,9 +12,6 @@ Inv-loop dist n best₀ at₀ s₀ best at s = (s ≤ n) × Sofar n dist best at
 
 abbrev μ-loop : tie.MeasureT-loop
 μ-loop dist n best₀ at₀ s₀ best at s = n - s
-
-steps-requires : tie.Need-steps-requires Inv-loop μ-loop
-steps-requires c κs = record { room = omega arith; col = omega arith; row = omega arith }
 
 loop-again : tie.Need-loop-again Inv-loop μ-loop
 loop-again c =
@@ -30,4 +27,4 @@ returns c =
 pub least-start-spec : {M : Type 1} → statement M
 least-start-spec =
     tie.close
-    (tie.spec Inv-loop μ-loop (λ c. (omega arith, start-none)) steps-requires (λ c. omega arith) (λ c. omega arith) loop-again returns)
+    (tie.spec Inv-loop μ-loop (λ c. (omega arith, start-none)) (λ c κs. omega arith) (λ c. omega arith) (λ c. omega arith) loop-again returns)

@@ -16,12 +16,6 @@ Inv-loop m dist n a t k x₀ x = (x ≤ n) × ((y : ℕ) → y < x → Cell n m 
 abbrev μ-loop : tie.MeasureT-loop
 μ-loop m dist n a t k x₀ x = n - x
 
-has-requires : tie.Need-has-requires Inv-loop μ-loop
-has-requires c κs = record { room = omega arith; col = omega arith; row = omega arith }
-
-steps-requires : tie.Need-steps-requires Inv-loop μ-loop
-steps-requires c κs = record { room = omega arith; col = omega arith; row = omega arith }
-
 returns : tie.Need-returns Inv-loop μ-loop
 returns c = record {
   within = omega arith;
@@ -45,4 +39,4 @@ returns-2 c =
 pub next-of-spec : {M : Type 1} → statement M
 next-of-spec =
     tie.close
-    (tie.spec Inv-loop μ-loop (λ c. (omega arith, λ y h. absurd (omega arith))) has-requires steps-requires returns (λ c. omega arith) (λ c. omega arith) loop-again returns-2)
+    (tie.spec Inv-loop μ-loop (λ c. (omega arith, λ y h. absurd (omega arith))) (λ c κs. omega arith) (λ c κs. omega arith) returns (λ c. omega arith) (λ c. omega arith) loop-again returns-2)

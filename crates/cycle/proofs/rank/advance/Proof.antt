@@ -1,5 +1,4 @@
 -- `rank::advance` meets its contract: all from `from` to before u that lead to v have a rank.
-use mathlib.Core.Path.{_≡_}
 use mathlib.Core.Logic.{⊎-elim}
 use Prim.Native.Nat.{ℕ, _-_, _<_, _≤_}
 use native.Mathlib.Omega.{arith}
@@ -19,9 +18,6 @@ abbrev μ-loop : tie.MeasureT-loop
 loop-holds : tie.Need-loop-holds Inv-loop μ-loop
 loop-holds c = (omega arith, omega arith, λ w h g. absurd (omega arith))
 
-has-requires : tie.Need-has-requires Inv-loop μ-loop
-has-requires c κs = record { room = omega arith; col = omega arith; row = omega arith }
-
 returns : tie.Need-returns Inv-loop μ-loop
 returns c = record { low = omega arith; high = omega arith; seen = λ w h g. c .before .before .before .before .before .loop .inv .2 w g h }
 
@@ -39,4 +35,4 @@ returns-2 c = record { low = omega arith; high = omega arith; seen = λ w h g. c
 pub advance-spec : {M : Type 1} → statement M
 advance-spec =
     tie.close
-    (tie.spec Inv-loop μ-loop loop-holds has-requires (λ c. omega arith) returns (λ c. omega arith) (λ c. omega arith) loop-again returns-2)
+    (tie.spec Inv-loop μ-loop loop-holds (λ c κs. omega arith) (λ c. omega arith) returns (λ c. omega arith) (λ c. omega arith) loop-again returns-2)

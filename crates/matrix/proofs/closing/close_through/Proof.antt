@@ -20,12 +20,6 @@ abbrev μ-loop : tie.MeasureT-loop
 loop-holds : tie.Need-loop-holds Inv-loop μ-loop
 loop-holds c = (omega arith, phase-none (c .before .pre .0 .bits))
 
-has-requires : tie.Need-has-requires Inv-loop μ-loop
-has-requires c κs = record { room = omega arith; col = omega arith; row = omega arith }
-
-join-row-requires : tie.Need-join-row-requires Inv-loop μ-loop
-join-row-requires c κs = record { room = omega arith; col = omega arith; row = omega arith }
-
 loop-again : tie.Need-loop-again Inv-loop μ-loop
 loop-again c =
     let s = c .before .before .before .before .before .before in
@@ -48,4 +42,4 @@ returns c =
 pub close-through-spec : {M : Type 1} → statement M
 close-through-spec =
     tie.close
-    (tie.spec Inv-loop μ-loop loop-holds has-requires join-row-requires (λ c. omega arith) (λ c. omega arith) loop-again same-length returns)
+    (tie.spec Inv-loop μ-loop loop-holds (λ c κs. omega arith) (λ c κs. omega arith) (λ c. omega arith) (λ c. omega arith) loop-again same-length returns)

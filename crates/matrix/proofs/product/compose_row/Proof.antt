@@ -19,12 +19,6 @@ abbrev μ-loop : tie.MeasureT-loop
 loop-holds : tie.Need-loop-holds Inv-loop μ-loop
 loop-holds c = (omega arith, composing-none (c .before .before .clear-row .ensures .row))
 
-has-requires : tie.Need-has-requires Inv-loop μ-loop
-has-requires c κs = record { room = omega arith; col = omega arith; row = omega arith }
-
-join-row-of-requires : tie.Need-join-row-of-requires Inv-loop μ-loop
-join-row-of-requires c κs = (record { room = omega arith; col = omega arith; row = omega arith }, omega arith)
-
 loop-again : tie.Need-loop-again Inv-loop μ-loop
 loop-again c =
     let s = c .before .before .before .before .before .before .before .before .before .before .before in
@@ -35,9 +29,6 @@ loop-again c =
     (λ w. (omega arith, rw (w .1) (composing-same (denied h (w .0 .left)) i)))
     (c .if1 .came)
 
-same-length : tie.Need-same-length Inv-loop μ-loop
-same-length c = omega arith
-
 returns : tie.Need-returns Inv-loop μ-loop
 returns c =
     let s = c .before .before .before .before .before .before .before .before .before in
@@ -47,4 +38,4 @@ returns c =
 pub compose-row-spec : {M : Type 1} → statement M
 compose-row-spec =
     tie.close
-    (tie.spec Inv-loop μ-loop (λ c κs. omega arith) loop-holds has-requires join-row-of-requires (λ c. omega arith) (λ c. omega arith) loop-again same-length returns)
+    (tie.spec Inv-loop μ-loop (λ c κs. omega arith) loop-holds (λ c κs. omega arith) (λ c κs. (omega arith, omega arith)) (λ c. omega arith) (λ c. omega arith) loop-again (λ c. omega arith) returns)

@@ -1,9 +1,9 @@
 -- `row::clear_row` meets its contract: the first k bytes of the row are 0.
 use mathlib.Core.Path.{_≡_, refl}
-use Prim.Native.Nat.{ℕ, _+_, _*_, _-_, _≤_}
+use Prim.Native.Nat.{_+_, _-_, _≤_}
 use native.Mathlib.Omega.{arith}
 use lib.ListN.{length}
-use Rattle.matrix.specs.Matrix.{Bit.off, Filled, MadeRow}
+use Rattle.matrix.specs.Matrix.{Bit.off, Filled}
 use Rattle.matrix.proofs.Parts.{row-before, filled-none, filled-more}
 use Rattle.matrix.proofs.Rows.{row-filled}
 use Rattle.matrix.proofs.row.clear_row.Statement.{statement}
@@ -21,9 +21,6 @@ mul-d c = omega (arith, row-before (c .args .n) (c .pre .1))
 loop-holds : tie.Need-loop-holds Inv-loop μ-loop
 loop-holds c = (omega arith, omega (arith, row-before (c .args .n) (c .pre .1)), filled-none)
 
-slice-write-m : tie.Need-slice-write-m Inv-loop μ-loop
-slice-write-m c = omega arith
-
 loop-again : tie.Need-loop-again Inv-loop μ-loop
 loop-again c = let i = c .before .loop .inv in (omega arith, i .1, filled-more _ 0 (omega arith) refl (i .2))
 
@@ -39,4 +36,4 @@ returns c =
 pub clear-row-spec : {M : Type 1} → statement M
 clear-row-spec =
     tie.close
-    (tie.spec Inv-loop μ-loop mul-d loop-holds (λ c. omega arith) slice-write-m (λ c. omega arith) (λ c. omega arith) loop-again same-length returns)
+    (tie.spec Inv-loop μ-loop mul-d loop-holds (λ c. omega arith) (λ c. omega arith) (λ c. omega arith) (λ c. omega arith) loop-again same-length returns)

@@ -1,7 +1,6 @@
 -- `row::join_row` meets its contract: the first k bytes of the row are joined, and row s is read as it was.
-use mathlib.Core.Path.{_≡_, refl, ap₂}
-use mathlib.Core.Logic.{_⊎_, ⊎-elim}
-use Prim.Native.Nat.{ℕ, _+_, _*_, _-_, _≤_}
+use mathlib.Core.Path.{_≡_, ap₂}
+use Prim.Native.Nat.{_+_, _-_, _≤_}
 use native.Mathlib.Omega.{arith}
 use lib.Bits.{bitOr}
 use lib.ListN.{length, getD}

@@ -1,5 +1,5 @@
 -- `search::least_pair` meets its contract: the pairs before p, q are passed, and nothing is found until the search is left.
-use mathlib.Core.Path.{_≡_, refl, sym}
+use mathlib.Core.Path.{_≡_, refl}
 use Prim.Native.Nat.{_-_, _≤_}
 use native.Mathlib.Omega.{arith}
 use Rattle.laws.proofs.Says.{said, denied}
@@ -25,9 +25,6 @@ abbrev μ-search : tie.MeasureT-search
 loop-holds : tie.Need-loop-holds Inv-loop μ-loop Inv-search μ-search
 loop-holds c = let i = c .before .search .inv in (omega arith, i .1, i .2)
 
-has-requires : tie.Need-has-requires Inv-loop μ-loop Inv-search μ-search
-has-requires c κs = record { room = omega arith; col = omega arith; row = omega arith }
-
 loop-again : tie.Need-loop-again Inv-loop μ-loop Inv-search μ-search
 loop-again c =
     let i = c .before .before .before .loop .inv in
@@ -49,5 +46,5 @@ returns-2 c = passed-found (said (c .before .has .ensures) (c .if1 .taken)) (c .
 pub least-pair-spec : {M : Type 1} → statement M
 least-pair-spec =
     tie.close
-    (tie.spec Inv-loop μ-loop Inv-search μ-search (λ c. (omega arith, refl, passed-none)) loop-holds has-requires (λ c. omega arith) (λ c. omega arith) loop-again
+    (tie.spec Inv-loop μ-loop Inv-search μ-search (λ c. (omega arith, refl, passed-none)) loop-holds (λ c κs. omega arith) (λ c. omega arith) (λ c. omega arith) loop-again
     (λ c. omega arith) (λ c. omega arith) search-again returns returns-2)

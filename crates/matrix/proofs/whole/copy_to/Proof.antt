@@ -3,7 +3,7 @@ use mathlib.Core.Path.{_≡_, refl}
 use Prim.Native.Nat.{_*_, _-_, _≤_}
 use native.Mathlib.Nat.{zero-add}
 use native.Mathlib.Omega.{arith}
-use lib.ListN.{length, getD}
+use lib.ListN.{getD}
 use Rattle.matrix.specs.Matrix.{Filled}
 use Rattle.matrix.proofs.Parts.{filled-none, filled-more}
 use Rattle.matrix.proofs.Cells.{made-filled}

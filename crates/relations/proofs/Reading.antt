@@ -1,0 +1,55 @@
+-- What answers on a read tell: whether it is justified, whether it stands on a race.
+use mathlib.Core.Path.{_≡_, subst}
+use mathlib.Core.Bool.{Bool, not, _&&_, _||_}
+use mathlib.Core.List.{List}
+use mathlib.Core.Logic.{_⊎_, inl, inr, ⊎-elim}
+use mathlib.Core.Option.{Option}
+use Prim.Native.Nat.{ℕ, _<_}
+use native.Mathlib.Omega.{arith}
+use Rattle.laws.specs.Says.{Says}
+use Rattle.laws.specs.Least.{LeastNumber}
+use Rattle.laws.proofs.Says.{says-not, says-and, says-or, says-iff}
+use Rattle.model.specs.Table.{Table, Source, NoSource}
+use Rattle.model.specs.Relations.{Hb, EarlierRace, WriteBefore, SomeEarlierRace, SomeWriteBefore, Justified, with-source, no-write-before, races-earlier}
+use Rattle.model.specs.Findings.{ShowsR}
+use Rattle.model.proofs.Fields.{absent-to}
+use Rattle.model.proofs.Facts.{one-source, read-inside}
+use Rattle.model.proofs.Within.{within-by, hb-within, race-within}
+use Rattle.table.specs.Events.{eventsOf}
+use Rattle.matrix.specs.Matrix.{Cell}
+use Rattle.matrix.specs.Found.{Flag}
+use Rattle.relations.specs.Asked.{Counted, Given}
+use Rattle.relations.specs.Reads.{Flagged}
+use Rattle.relations.proofs.Counting.{formed, within-count}
+use Rattle.relations.proofs.Flags.{says-some, flagged-least}
+
+module _ {bytes : List ℕ} {n : ℕ} (counted : Counted bytes n) where
+  module _ {r : ℕ} {m : List ℕ} {x : Bool} (inside : r < n) where
+    pub some-race : Given n (EarlierRace (eventsOf bytes)) m → Says x ((a : ℕ) × Cell n m a r) → Says x (SomeEarlierRace (eventsOf bytes) r)
+    some-race given = says-some given (λ w z. within-count counted (race-within (formed counted)) .left (z .race)) inside
+
+    pub some-write : Given n (WriteBefore (eventsOf bytes)) m → Says x ((a : ℕ) × Cell n m a r) → Says x (SomeWriteBefore (eventsOf bytes) r)
+    some-write given = says-some given (λ w z. within-count counted (hb-within (formed counted)) .left (z .before)) inside
+
+  -- the least flag is the witness of R
+  pub least-unjustified : {m m′ : List ℕ} {x : Option ℕ} → Flagged n (ShowsR (eventsOf bytes)) m m′ → LeastNumber (Flag n m′) x → LeastNumber (ShowsR (eventsOf bytes)) x
+  least-unjustified = flagged-least (λ r z. omega (arith, counted .all, read-inside (formed counted) r (z .reads)))
+
+module _ {t : Table} {r : ℕ} {raced : Bool} (by-race : Says raced (SomeEarlierRace t r)) where
+  -- "A read with a source"
+  pub says-justified : {s : ℕ} {x : Bool} → Source t s r → Says x (Hb t s r) → Says (x && not raced) (Justified t r)
+  says-justified {s} source by-hb = says-iff (λ (h, e). with-source source h e) back (says-and by-hb (says-not by-race))
+    where
+      back : Justified t r → Hb t s r × ¬ SomeEarlierRace t r
+      back (with-source c h e) = (subst (λ (q : ℕ). Hb t q r) (one-source t c source) h, e)
+      back (no-write-before e n) = absurd (absent-to e (source .is))
+      back (races-earlier e z) = absurd (absent-to e (source .is))
+
+  -- "A read without a source"
+  pub says-justified-without : {x : Bool} → NoSource t r → Says x (SomeWriteBefore t r) → Says (not x || raced) (Justified t r)
+  says-justified-without none by-write = says-iff (⊎-elim (no-write-before none) (races-earlier none)) back (says-or (says-not by-write) by-race)
+    where
+      back : Justified t r → (¬ SomeWriteBefore t r) ⊎ SomeEarlierRace t r
+      back (with-source c h e) = absurd (absent-to none (c .is))
+      back (no-write-before e n) = inl n
+      back (races-earlier e z) = inr z

@@ -1,0 +1,69 @@
+-- What answers on the records of a sound table, and on matrices, tell of its relations.
+use mathlib.Core.Path.{_≡_, sym, subst, _∙_}
+use mathlib.Core.Bool.{Bool, false}
+use mathlib.Core.List.{List}
+use Prim.Native.Nat.{ℕ, _<_}
+use lib.Dec.{T}
+use native.Mathlib.Omega.{arith}
+use Rattle.events.specs.declared.Link.{Link}
+use Rattle.events.specs.declared.Link.the-variants.{Absent, To}
+use Rattle.laws.specs.Says.{Says}
+use Rattle.laws.proofs.Says.{says-T, says-no, says-iff}
+use Rattle.model.specs.Table.{Table, Source, NoSource}
+use Rattle.model.specs.Relations.{Conflict, Hb}
+use Rattle.model.specs.Findings.{ShowsA3}
+use Rattle.model.proofs.Fields.{absent-to}
+use Rattle.model.proofs.Facts.{one-source, has-source}
+use Rattle.model.proofs.Within.{source-within}
+use Rattle.table.specs.Events.{eventsOf}
+use Rattle.matrix.specs.Matrix.{Cell}
+use Rattle.matrix.proofs.Cells.{of-cell, cell-of, says-cell}
+use Rattle.relations.specs.Asked.{Counted, Two, Given}
+use Rattle.relations.specs.Relations.{FromSource}
+
+-- an answer that is a word on a record
+pub says-is : {b c : Bool} → b ≡ c → Says b (T c)
+says-is {c = c} e = subst (λ (x : Bool). Says x (T c)) (sym e) (says-T c)
+
+-- an answer of a matrix, of two records and of the same two the other way round
+module _ {n a b : ℕ} {R : ℕ → ℕ → Type 0} {bytes m : List ℕ} {r : Bool} (two : Two bytes n a b) (given : Given n R m) where
+  pub told : Says r (Cell n m a b) → Says r (R a b)
+  told = says-cell (given .holds) (two .first) (two .second)
+
+  pub told-back : Says r (Cell n m b a) → Says r (R b a)
+  told-back = says-cell (given .holds) (two .second) (two .first)
+
+-- a link that is that of record r's source
+module _ {bytes : List ℕ} {n : ℕ} (r : ℕ) {link : Link} (counted : Counted bytes n) (is : link ≡ eventsOf bytes .at r .source) where
+  pub the-source : {s : ℕ} → link ≡ To s → Source (eventsOf bytes) s r
+  the-source {s} e = has-source (counted .sound .formed) s r (sym is ∙ e)
+
+  pub source-low : {s : ℕ} → link ≡ To s → s < n
+  source-low e = omega (arith, counted .all, source-within (counted .sound .formed) .left (the-source e))
+
+module _ {t : Table} {R : ℕ → ℕ → Type 0} {r b : ℕ} where
+  pub says-by-source : {s : ℕ} {x : Bool} → Source t s r → Says x (R s b) → Says x (FromSource t R r b)
+  says-by-source {s} source =
+      says-iff (λ z. record { s = s; source = source; related = z })
+      (λ z. subst (λ (q : ℕ). R q b) (one-source t (z .source) source) (z .related))
+
+  pub says-no-source : NoSource t r → Says false (FromSource t R r b)
+  says-no-source none = says-no (λ z. absent-to none (z .source .is))
+
+-- an answer of a matrix on the source of a record
+pub told-of-source :
+    {n r b : ℕ} {R : ℕ → ℕ → Type 0} {bytes m : List ℕ} {x : Bool} → Two bytes n r b → Given n R m → Says x (FromSource (eventsOf bytes) (Cell n m) r b) → Says x (FromSource (eventsOf bytes) R r b)
+told-of-source {n} {bytes = bytes} two given =
+    says-iff (λ z. record { s = z .s; source = z .source; related = of-cell (given .holds) (z .related) })
+    (λ z. record { s = z .s; source = z .source; related = cell-of (given .holds) (low (z .source)) (two .second) (z .related) })
+  where
+    low : {s r : ℕ} → Source (eventsOf bytes) s r → s < n
+    low source = omega (arith, two .table .all, source-within (two .table .sound .formed) .left source)
+
+-- A3, asked of the later record's source
+pub says-A3 :
+    {t : Table} {p q : ℕ} {x : Bool} → Says x (FromSource t (λ s r. Hb t r q × FromSource t (Conflict t) r s) q p) → Says x (ShowsA3 t p q)
+says-A3 =
+    says-iff
+    (λ z. record { before = z .related .0; s′ = z .related .1 .s; s = z .s; source′ = z .related .1 .source; source = z .source; conflict = z .related .1 .related })
+    (λ z. record { s = z .s; source = z .source; related = (z .before, record { s = z .s′; source = z .source′; related = z .conflict }) })

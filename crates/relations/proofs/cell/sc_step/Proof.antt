@@ -1,0 +1,39 @@
+-- `cell::sc_step` meets its contract, way by way.
+use mathlib.Core.Logic.{inl, inr}
+use borrow.Author.Needs.{needs}
+use Rattle.laws.proofs.Says.{says-eq, says-not, says-and, says-or, says-iff}
+use Rattle.model.specs.Relations.{by-hbsc, by-wb, by-fr}
+use Rattle.relations.proofs.Telling.{says-is, told, told-of-source}
+use Rattle.relations.proofs.cell.sc_step.Statement.{statement}
+use Rattle.relations.proofs.cell.sc_step.Tie as tie
+
+returns : tie.Need-returns
+returns c =
+    let s = c .before .before .before .before .before .before .before .before in
+    let (two, (hbsc, wb)) = s .pre in
+    says-iff
+    (λ ((p, q), z). record {
+      sc-a = p;
+      sc-b = q;
+      by = elim z [
+        | inl (inl h) ↦ by-hbsc (record { sc-a = p; sc-b = q; by = h })
+        | inl (inr h) ↦ by-wb h
+        | inr (d, f) ↦ by-fr (record { s = f .s; source = f .source; before = f .related; differ = d })
+      ];
+    })
+    (λ z. (
+      (z .sc-a, z .sc-b),
+      elim (z .by) [
+        | by-hbsc h ↦ inl (inl (h .by))
+        | by-wb h ↦ inl (inr h)
+        | by-fr f ↦ inr (f .differ, record { s = f .s; source = f .source; related = f .before })
+      ],
+    ))
+    (says-and (says-and (says-is (c .before .before .before .before .sequential .ensures)) (says-is (c .before .before .before .sequential2 .ensures)))
+    (says-or (says-or (told two hbsc (c .before .before .has .ensures)) (told two wb (c .before .has2 .ensures)))
+    (says-and (says-not (says-eq (s .args .a) (s .args .b))) (told-of-source two wb (c .from-source .ensures)))))
+
+pub sc-step-spec : {M : Type 1} → statement M
+sc-step-spec =
+    tie.close
+    (tie.spec (λ c κs. search needs) (λ c κs. search needs) (λ c κs. search needs) (λ c κs. search needs) (λ c κs. search needs) returns)

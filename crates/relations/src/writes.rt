@@ -1,0 +1,99 @@
+// wb0 and wb as matrices: hb handed on to the writes that own its records.
+use limits::LIMIT;
+use crate::stored::Stored;
+use crate::stored::fill;
+use events::Link;
+use facts::source;
+use facts::writes;
+use matrix::closing::close;
+use matrix::owner::gather;
+use matrix::owner::scatter;
+use matrix::whole::clear;
+use matrix::whole::copy_to;
+ghost use mathlib.Core.Path.{_≡_};
+ghost use Prim.Native.Nat.{ℕ, _<_, _≤_};
+ghost use lib.ListN.{length};
+ghost use Rattle.laws.specs.Steps.{Plus};
+ghost use Rattle.matrix.specs.Matrix.{Square, Cell, IsMatrix, Filled, Made};
+ghost use Rattle.model.specs.Relations.{Hb, Wb0};
+ghost use Rattle.table.specs.Events.{eventsOf};
+ghost use Rattle.relations.specs.Asked.{Counted, One, Given};
+ghost use Rattle.relations.specs.Owners.{ownNumber, sourceNumber, EitherOwns, Handing};
+
+// No record has this number.
+const NONE: u8 = 255;
+
+// A record that writes owns itself.
+fn own_number(table: &[u8], n: usize, v: usize) -> u8
+    requires { ⌜ One (now table) n v ⌝ }
+    ensures { λ r. ⌜ r ≡ ownNumber (eventsOf (now (table .entry))) v ⌝ }
+{
+    if writes(table, v) { v as u8 } else { NONE }
+}
+
+// A record's source owns it.
+fn source_number(table: &[u8], n: usize, v: usize) -> u8
+    requires { ⌜ One (now table) n v ⌝ }
+    ensures { λ r. ⌜ r ≡ sourceNumber (eventsOf (now (table .entry))) v ⌝ }
+{
+    let link = source(table, v);
+    match link {
+        Link::Absent => NONE,
+        Link::To(s) => s,
+    }
+}
+
+// The owners of each record, in two columns.
+fn owners(table: &[u8], n: usize, own: &mut [u8], sources: &mut [u8])
+    requires { ⌜ Counted (now table) n × (n ≤ length (now own)) × (n ≤ length (now sources)) ⌝ }
+    ensures { λ _. ⌜ Filled (ownNumber (eventsOf (now (table .entry)))) 0 n (now (own .entry)) (now (own .exit)) × Filled (sourceNumber (eventsOf (now (table .entry)))) 0 n (now (sources .entry)) (now (sources .exit)) ⌝ }
+{
+    for v in 0..n {
+        own[v] = own_number(table, n, v);
+        sources[v] = source_number(table, n, v);
+    }
+}
+
+// What x relates to a record it relates to the record's owners.
+fn hand_to(own: &[u8], sources: &[u8], x: &[u8], n: usize, out: &mut [u8])
+    requires { ⌜ Handing n (now own) (now sources) (now x) (now out) ⌝ }
+    ensures { λ _. ⌜ Made n n (λ a b. EitherOwns (now (own .entry)) (now (sources .entry)) (λ v. Cell n (now (x .entry)) a v) b) (now (out .entry)) (now (out .exit)) ⌝ }
+{
+    clear(out, n);
+    gather(own, x, out, n);
+    gather(sources, x, out, n);
+}
+
+// What x relates a record to it relates the record's owners to.
+fn hand_from(own: &[u8], sources: &[u8], x: &[u8], n: usize, out: &mut [u8])
+    requires { ⌜ Handing n (now own) (now sources) (now x) (now out) ⌝ }
+    ensures { λ _. ⌜ Made n n (λ a b. EitherOwns (now (own .entry)) (now (sources .entry)) (λ v. Cell n (now (x .entry)) v b) a) (now (out .entry)) (now (out .exit)) ⌝ }
+{
+    clear(out, n);
+    scatter(own, x, out, n);
+    scatter(sources, x, out, n);
+}
+
+// Row b, column a says whether a is wb0 before b.
+pub fn wb0_matrix(table: &[u8], hb: &[u8], n: usize, out: &mut [u8])
+    requires { ⌜ Counted (now table) n × Given n (Hb (eventsOf (now table))) (now hb) × Square n (now out) ⌝ }
+    ensures { λ _. ⌜ Made n n (Wb0 (eventsOf (now (table .entry)))) (now (out .entry)) (now (out .exit)) ⌝ }
+{
+    let mut own = [0u8; LIMIT];
+    let mut sources = [0u8; LIMIT];
+    owners(table, n, &mut own, &mut sources);
+    let mut to_owners = [0u8; LIMIT * LIMIT];
+    hand_to(&own, &sources, hb, n, &mut to_owners);
+    let mut between = [0u8; LIMIT * LIMIT];
+    hand_from(&own, &sources, &to_owners, n, &mut between);
+    fill(Stored::Wb0, table, &between, hb, hb, n, out);
+}
+
+// One or more steps of what wb0 holds.
+pub fn wb_matrix(wb0: &[u8], n: usize, out: &mut [u8])
+    requires { ⌜ IsMatrix n (now wb0) × Square n (now out) ⌝ }
+    ensures { λ _. ⌜ Made n n (Plus (Cell n (now (wb0 .entry)))) (now (out .entry)) (now (out .exit)) ⌝ }
+{
+    copy_to(wb0, out, n);
+    close(out, n);
+}
