@@ -1,21 +1,17 @@
 -- Bytes that are read, written back, are the same bytes.
 use mathlib.Core.Path.{_≡_, refl, sym, subst, ap, _∙_}
-use mathlib.Core.Logic.{_⊎_, inl, inr, ⊎-elim}
-use mathlib.Core.Bool.{Bool, true, false, not, _&&_, _||_}
+use mathlib.Core.Bool.{Bool, true, false}
 use mathlib.Core.List.{List, [], _∷_}
-use Prim.Native.Nat.{ℕ, zero, suc, _+_, _*_, _/_, _%_, _<_, _≤_}
+use Prim.Native.Nat.{ℕ, zero, suc, _+_, _/_, _%_, _<_}
 use native.Mathlib.Omega.{arith}
-use native.Mathlib.Decide.{decLt}
-use lib.Dec.{T, eqb, eqb→eq, leb, leb→le}
-use lib.ListN.{length, getD, drop, List·getD-eq-default, drop-of-length-le}
+use lib.Dec.{T, eqb, eqb→eq}
+use lib.ListN.{length, getD, drop, drop-of-length-le}
 use lib.Seq.{drop-cons}
-use borrow.Author.Tests.{eq-eqb, ne-eqb}
 use Rattle.events.specs.declared.Order.{Order}
 use Rattle.events.specs.declared.Order.the-variants.{Na}
 use Rattle.events.specs.declared.Value.{Value}
 use Rattle.events.specs.declared.Value.the-variants.{U, Known}
 use Rattle.events.specs.declared.Link.the-variants.{Absent, To}
-use Rattle.events.specs.declared.Record.{Record}
 use Rattle.events.specs.Words.{codeOf}
 use Rattle.laws.specs.Says.{Says}
 use Rattle.record.specs.declared.written.Columns.{Columns}

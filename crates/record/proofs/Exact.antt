@@ -1,15 +1,12 @@
 -- Sixteen bytes are read as a record, or refused with 2 to 5, exactly as the rows of document 01 say.
-use mathlib.Core.Path.{_≡_, refl}
-use mathlib.Core.Bool.{Bool, true, false, not, _&&_, _||_}
+use mathlib.Core.Path.{_≡_}
+use mathlib.Core.Bool.{Bool, true, false, _||_}
 use mathlib.Core.List.{List}
-use Prim.Native.Nat.{ℕ, _%_, _≤_}
-use lib.Dec.{T, eqb}
+use Prim.Native.Nat.{ℕ, _%_}
+use lib.Dec.{eqb}
 use Rattle.laws.specs.Says.{Says}
-use Rattle.laws.proofs.Says.{says-T, says-eq, says-le, says-not, says-and, says-if, says-iff, says-dec}
-use Rattle.refusals.specs.declared.Fault.the-variants.{Mark, Kind, Rest, Range}
-use Rattle.record.specs.declared.Decoded.{Decoded}
-use Rattle.record.specs.declared.Decoded.the-variants.{Good, Bad}
-use Rattle.record.specs.Form.{byteAt, kindByte, orderByte, threadByte, sourceByte, locationByte, flagsByte, readsKind, writesKind, readU, writtenU, marked, inRow, flagsRest, rested, inRange, recordFrom, decidedBy, decode}
+use Rattle.laws.proofs.Says.{says-T, says-eq, says-le, says-not, says-and, says-if, says-iff}
+use Rattle.record.specs.Form.{byteAt, kindByte, orderByte, threadByte, sourceByte, locationByte, flagsByte, readsKind, writesKind, readU, writtenU, marked, inRow, rested, inRange, recordFrom, decidedBy, decode}
 use Rattle.record.specs.Rows.{Marked, InRow, Reads, Writes, ReadU, WrittenU, Rested, InRange, ReadAs, good, bad-2, bad-3, bad-4, bad-5}
 
 -- a test for "unless P, Q"

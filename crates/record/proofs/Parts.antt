@@ -4,7 +4,7 @@ use mathlib.Core.List.{List, [], _++_, append-assoc}
 use Prim.Native.Nat.{ℕ, suc, _+_, _*_, _-_, _<_, _≤_}
 use native.Mathlib.Omega.{arith}
 use native.Mathlib.Decide.{decLt}
-use lib.ListN.{length, getD, take, drop, length-append, length-take, length-drop, drop-of-length-le, take-append-drop, List·getD-eq-default}
+use lib.ListN.{length, take, drop, length-append, length-take, length-drop, drop-of-length-le, take-append-drop, List·getD-eq-default}
 use lib.Seq.{length-take-le, take-at, take-all, drop-at, take-append-le, drop-append-le, drop-append-add, drop-drop, take-nil, getD-take, getD-drop, take-add}
 use Rattle.events.specs.declared.Record.{Record}
 use Rattle.record.specs.Form.{byteAt, encode, part, overwritten}

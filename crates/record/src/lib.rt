@@ -68,9 +68,9 @@ pub fn write_at(table: &mut [u8], n: usize, r: Record)
     requires { ⌜ 16 * n + 16 ≤ length (now table) ⌝ }
     ensures { λ _. ⌜ now (table .exit) ≡ overwritten (now (table .entry)) n (encode r) ⌝ }
 {
-    let a = bytes_of(r);
-    let at = SIZE * n;
-    bytes::copy(&a, &mut table[at..at + SIZE]);
+    let new = bytes_of(r);
+    let start = SIZE * n;
+    bytes::copy(&new, &mut table[start..start + SIZE]);
 }
 
 // What a record is "as if its bytes were read".

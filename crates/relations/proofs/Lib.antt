@@ -3,6 +3,7 @@ pub mod Telling
 pub mod Making
 pub mod Counting
 pub mod Owning
+pub mod Closing
 pub mod Detours
 pub mod Flags
 pub mod Reading

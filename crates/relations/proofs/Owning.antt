@@ -2,7 +2,7 @@
 use mathlib.Core.Path.{_≡_, refl, sym, ap, subst, _∙_}
 use mathlib.Core.Bool.{Bool, true, false}
 use mathlib.Core.List.{List}
-use mathlib.Core.Logic.{_⊎_, inl, inr}
+use mathlib.Core.Logic.{inl, inr}
 use Prim.Native.Nat.{ℕ, _<_, _≤_}
 use native.Mathlib.Nat.{zero-add}
 use native.Mathlib.Omega.{arith}
@@ -11,18 +11,18 @@ use lib.ListN.{length, getD}
 use Rattle.events.specs.declared.Link.{Link}
 use Rattle.events.specs.declared.Link.the-variants.{Absent, To}
 use Rattle.events.specs.Words.{isWrite}
-use Rattle.laws.specs.Steps.{Plus}
 use Rattle.model.specs.Table.{Table, Write}
-use Rattle.model.specs.Relations.{Hb, WriteOrReader, the-write, a-reader, Wb0, Wb}
+use Rattle.model.specs.Relations.{Hb, WriteOrReader, the-write, a-reader}
 use Rattle.model.proofs.Facts.{has-source, source-is-earlier-write}
-use Rattle.model.proofs.Within.{hb-within, wb0-within}
+use Rattle.model.proofs.Within.{hb-within}
 use Rattle.table.specs.Events.{eventsOf}
-use Rattle.matrix.specs.Matrix.{Square, Cell, Filled, Made}
-use Rattle.matrix.proofs.Cells.{rows-iff, of-cell, cell-of, to-cell}
+use Rattle.matrix.specs.Matrix.{Square, Holds, Cell, IsMatrix, Filled, Made}
+use Rattle.matrix.specs.Relations.{Owners}
+use Rattle.matrix.proofs.Cells.{rows-iff, of-cell, cell-of, to-cell, bits-of}
 use Rattle.relations.specs.Asked.{Counted, Given}
 use Rattle.relations.specs.Owners.{noNumber, numberIf, linkNumber, ownNumber, sourceNumber, EitherOwns, Handing}
 use Rattle.relations.specs.Relations.{OwnerOf, BeforeOwned, OwnersBefore}
-use Rattle.relations.proofs.Making.{made-room, given-matrix, plus-made}
+use Rattle.relations.proofs.Making.{made-room, given-matrix}
 use Rattle.relations.proofs.Counting.{formed, within-count, few}
 
 number-if : (w : Bool) (v b : ℕ) → b < noNumber → numberIf w v ≡ b → T w × (v ≡ b)
@@ -36,6 +36,11 @@ if-number false v h = absurd h
 number-link : (l : Link) (b : ℕ) → b < noNumber → linkNumber l ≡ b → l ≡ To b
 number-link Absent b h e = absurd (omega arith)
 number-link (To s) b h e = ap To e
+
+-- a column of owners, a matrix to hand on, and one to hand on into
+pub owners-of :
+    {n : ℕ} {R : ℕ → ℕ → Type 0} {owner x m : List ℕ} → n ≤ length owner → IsMatrix n x → Square n m → Holds n R m → Owners n owner x m
+owners-of column x room r = record { column = column; from = x; to = record { room = room; bits = bits-of r } }
 
 owner-map : {t : Table} {P Q : ℕ → Type 0} {w : ℕ} → ((v : ℕ) → P v → Q v) → OwnerOf t P w → OwnerOf t Q w
 owner-map f z = record { write = z .write; of = z .of; owns = z .owns; has = f (z .of) (z .has) }
@@ -97,8 +102,3 @@ module _
           rows-iff (λ a b h l z. owner-map (λ v. of-cell (x .holds)) (owner-by (λ v c. c .col) h z))
           (λ a b h l z. by-owner (λ v c. c .col) (owner-map (λ v y. cell-of (x .holds) (within-count counted (hb-within (formed counted)) .left (y .has)) l y) z)) (made .rows);
     }
-
--- wb, from a matrix that holds wb0
-pub wb-made :
-    {bytes : List ℕ} {n : ℕ} {wb0 m m′ : List ℕ} → Counted bytes n → Given n (Wb0 (eventsOf bytes)) wb0 → Made n n (Plus (Cell n wb0)) m m′ → Made n n (Wb (eventsOf bytes)) m m′
-wb-made counted = plus-made (within-count counted (wb0-within (formed counted)))

@@ -1,5 +1,5 @@
 -- What answers on a read tell: whether it is justified, whether it stands on a race.
-use mathlib.Core.Path.{_≡_, subst}
+use mathlib.Core.Path.{subst}
 use mathlib.Core.Bool.{Bool, not, _&&_, _||_}
 use mathlib.Core.List.{List}
 use mathlib.Core.Logic.{_⊎_, inl, inr, ⊎-elim}
@@ -14,7 +14,7 @@ use Rattle.model.specs.Relations.{Hb, EarlierRace, WriteBefore, SomeEarlierRace
 use Rattle.model.specs.Findings.{ShowsR}
 use Rattle.model.proofs.Fields.{absent-to}
 use Rattle.model.proofs.Facts.{one-source, read-inside}
-use Rattle.model.proofs.Within.{within-by, hb-within, race-within}
+use Rattle.model.proofs.Within.{hb-within, race-within}
 use Rattle.table.specs.Events.{eventsOf}
 use Rattle.matrix.specs.Matrix.{Cell}
 use Rattle.matrix.specs.Found.{Flag}

@@ -4,9 +4,8 @@ use mathlib.Core.Bool.{Bool, false}
 use mathlib.Core.List.{List}
 use Prim.Native.Nat.{ℕ, _<_}
 use lib.Dec.{T}
-use native.Mathlib.Omega.{arith}
 use Rattle.events.specs.declared.Link.{Link}
-use Rattle.events.specs.declared.Link.the-variants.{Absent, To}
+use Rattle.events.specs.declared.Link.the-variants.{To}
 use Rattle.laws.specs.Says.{Says}
 use Rattle.laws.proofs.Says.{says-T, says-no, says-iff}
 use Rattle.model.specs.Table.{Table, Source, NoSource}
@@ -20,6 +19,7 @@ use Rattle.matrix.specs.Matrix.{Cell}
 use Rattle.matrix.proofs.Cells.{of-cell, cell-of, says-cell}
 use Rattle.relations.specs.Asked.{Counted, Two, Given}
 use Rattle.relations.specs.Relations.{FromSource}
+use Rattle.relations.proofs.Counting.{formed, within-count}
 
 -- an answer that is a word on a record
 pub says-is : {b c : Bool} → b ≡ c → Says b (T c)
@@ -36,10 +36,10 @@ module _ {n a b : ℕ} {R : ℕ → ℕ → Type 0} {bytes m : List ℕ} {r : Bo
 -- a link that is that of record r's source
 module _ {bytes : List ℕ} {n : ℕ} (r : ℕ) {link : Link} (counted : Counted bytes n) (is : link ≡ eventsOf bytes .at r .source) where
   pub the-source : {s : ℕ} → link ≡ To s → Source (eventsOf bytes) s r
-  the-source {s} e = has-source (counted .sound .formed) s r (sym is ∙ e)
+  the-source {s} e = has-source (formed counted) s r (sym is ∙ e)
 
   pub source-low : {s : ℕ} → link ≡ To s → s < n
-  source-low e = omega (arith, counted .all, source-within (counted .sound .formed) .left (the-source e))
+  source-low e = within-count counted (source-within (formed counted)) .left (the-source e)
 
 module _ {t : Table} {R : ℕ → ℕ → Type 0} {r b : ℕ} where
   pub says-by-source : {s : ℕ} {x : Bool} → Source t s r → Says x (R s b) → Says x (FromSource t R r b)
@@ -53,12 +53,10 @@ module _ {t : Table} {R : ℕ → ℕ → Type 0} {r b : ℕ} where
 -- an answer of a matrix on the source of a record
 pub told-of-source :
     {n r b : ℕ} {R : ℕ → ℕ → Type 0} {bytes m : List ℕ} {x : Bool} → Two bytes n r b → Given n R m → Says x (FromSource (eventsOf bytes) (Cell n m) r b) → Says x (FromSource (eventsOf bytes) R r b)
-told-of-source {n} {bytes = bytes} two given =
+told-of-source two given =
+    let low = within-count (two .table) (source-within (formed (two .table))) in
     says-iff (λ z. record { s = z .s; source = z .source; related = of-cell (given .holds) (z .related) })
-    (λ z. record { s = z .s; source = z .source; related = cell-of (given .holds) (low (z .source)) (two .second) (z .related) })
-  where
-    low : {s r : ℕ} → Source (eventsOf bytes) s r → s < n
-    low source = omega (arith, two .table .all, source-within (two .table .sound .formed) .left source)
+    (λ z. record { s = z .s; source = z .source; related = cell-of (given .holds) (low .left (z .source)) (two .second) (z .related) })
 
 -- A3, asked of the later record's source
 pub says-A3 :

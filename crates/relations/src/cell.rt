@@ -6,7 +6,6 @@ use facts::sequential;
 use facts::source;
 use facts::writes;
 use matrix::row::has;
-ghost use Prim.Native.Nat.{ℕ};
 ghost use Rattle.laws.specs.Says.{Says};
 ghost use Rattle.matrix.specs.Matrix.{Cell, Square};
 ghost use Rattle.model.specs.Relations.{Po, Conflict, Hb, Race, Wb0, Wb, PoDiff, PoHbPo, HbscBy, ScStep, EarlierRace, WriteBefore};

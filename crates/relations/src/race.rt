@@ -1,7 +1,6 @@
 // Races as a matrix.
 use crate::stored::Stored;
 use crate::stored::fill;
-ghost use Prim.Native.Nat.{ℕ};
 ghost use Rattle.matrix.specs.Matrix.{Square, Made};
 ghost use Rattle.model.specs.Relations.{Conflict, Hb, Race};
 ghost use Rattle.table.specs.Events.{eventsOf};

@@ -1,9 +1,8 @@
 // The steps among SC records, as a matrix.
-use limits::LIMIT;
 use crate::stored::Stored;
 use crate::stored::fill;
+use limits::LIMIT;
 use matrix::product::compose;
-ghost use Prim.Native.Nat.{ℕ};
 ghost use Rattle.matrix.specs.Matrix.{Square, Made};
 ghost use Rattle.model.specs.Relations.{Po, Hb, Wb, HbscBy, ScStep};
 ghost use Rattle.table.specs.Events.{eventsOf};

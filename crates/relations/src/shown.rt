@@ -4,7 +4,6 @@ use events::Link;
 use facts::source;
 use facts::writes;
 use matrix::row::has;
-ghost use Prim.Native.Nat.{ℕ};
 ghost use Rattle.laws.specs.Says.{Says};
 ghost use Rattle.model.specs.Relations.{Conflict, Hb, Race};
 ghost use Rattle.model.specs.Findings.{ShowsA2, ShowsA3, ShowsW};

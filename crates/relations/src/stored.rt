@@ -10,11 +10,11 @@ use crate::shown::conflict_before;
 use crate::shown::sources_conflict;
 use crate::shown::writes_race;
 use matrix::row::put;
-ghost use Prim.Native.Nat.{ℕ, _<_};
+ghost use Prim.Native.Nat.{_<_};
 ghost use Rattle.laws.specs.Says.{Says};
-ghost use Rattle.matrix.specs.Matrix.{Square, MadeRow, Made};
+ghost use Rattle.matrix.specs.Matrix.{MadeRow, Made};
 ghost use Rattle.table.specs.Events.{eventsOf};
-ghost use Rattle.relations.specs.Asked.{Counted, Two};
+ghost use Rattle.relations.specs.Asked.{Two};
 ghost use Rattle.relations.specs.Stored.{relationOf, Inputs, Filling};
 
 // The relations that are worked out cell by cell.

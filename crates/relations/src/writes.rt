@@ -1,39 +1,40 @@
 // wb0 and wb as matrices: hb handed on to the writes that own its records.
-use limits::LIMIT;
 use crate::stored::Stored;
 use crate::stored::fill;
 use events::Link;
 use facts::source;
 use facts::writes;
+use limits::LIMIT;
 use matrix::closing::close;
 use matrix::owner::gather;
 use matrix::owner::scatter;
 use matrix::whole::clear;
 use matrix::whole::copy_to;
 ghost use mathlib.Core.Path.{_≡_};
-ghost use Prim.Native.Nat.{ℕ, _<_, _≤_};
+ghost use Prim.Native.Nat.{_<_, _≤_};
 ghost use lib.ListN.{length};
 ghost use Rattle.laws.specs.Steps.{Plus};
 ghost use Rattle.matrix.specs.Matrix.{Square, Cell, IsMatrix, Filled, Made};
 ghost use Rattle.model.specs.Relations.{Hb, Wb0};
 ghost use Rattle.table.specs.Events.{eventsOf};
-ghost use Rattle.relations.specs.Asked.{Counted, One, Given};
+ghost use Rattle.facts.specs.Sound.{SoundTable};
+ghost use Rattle.relations.specs.Asked.{Counted, Given};
 ghost use Rattle.relations.specs.Owners.{ownNumber, sourceNumber, EitherOwns, Handing};
 
 // No record has this number.
 const NONE: u8 = 255;
 
 // A record that writes owns itself.
-fn own_number(table: &[u8], n: usize, v: usize) -> u8
-    requires { ⌜ One (now table) n v ⌝ }
+fn own_number(table: &[u8], v: usize) -> u8
+    requires { ⌜ SoundTable (now table) × (v < eventsOf (now table) .count) ⌝ }
     ensures { λ r. ⌜ r ≡ ownNumber (eventsOf (now (table .entry))) v ⌝ }
 {
     if writes(table, v) { v as u8 } else { NONE }
 }
 
 // A record's source owns it.
-fn source_number(table: &[u8], n: usize, v: usize) -> u8
-    requires { ⌜ One (now table) n v ⌝ }
+fn source_number(table: &[u8], v: usize) -> u8
+    requires { ⌜ SoundTable (now table) × (v < eventsOf (now table) .count) ⌝ }
     ensures { λ r. ⌜ r ≡ sourceNumber (eventsOf (now (table .entry))) v ⌝ }
 {
     let link = source(table, v);
@@ -49,8 +50,8 @@ fn owners(table: &[u8], n: usize, own: &mut [u8], sources: &mut [u8])
     ensures { λ _. ⌜ Filled (ownNumber (eventsOf (now (table .entry)))) 0 n (now (own .entry)) (now (own .exit)) × Filled (sourceNumber (eventsOf (now (table .entry)))) 0 n (now (sources .entry)) (now (sources .exit)) ⌝ }
 {
     for v in 0..n {
-        own[v] = own_number(table, n, v);
-        sources[v] = source_number(table, n, v);
+        own[v] = own_number(table, v);
+        sources[v] = source_number(table, v);
     }
 }
 

@@ -1,6 +1,6 @@
 -- The edges that document 01 names, as facts of the definitions.
 use mathlib.Core.Path.{_≡_, refl}
-use mathlib.Core.List.{List, [], _∷_}
+use mathlib.Core.List.{[], _∷_}
 use Prim.Native.Nat.{ℕ}
 use lib.Dec.{T}
 use Rattle.events.specs.declared.Order.the-variants.{Rel}

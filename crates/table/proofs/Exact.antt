@@ -15,7 +15,6 @@ use Rattle.record.specs.Form.{byteAt, decode, encode, part}
 use Rattle.record.specs.Fits.{Bytes}
 use Rattle.record.proofs.RoundTrip.{proper, encode-decode-low}
 use Rattle.record.proofs.Parts.{part-length, bytes-part}
-use Rattle.model.specs.Table.{Table}
 use Rattle.model.specs.WellFormed.{Refused6, Refused7, Refused8}
 use Rattle.table.specs.declared.Checked.the-variants.{Fine, Faulty}
 use Rattle.table.specs.Events.{recordOf, eventsOf}

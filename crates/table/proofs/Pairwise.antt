@@ -1,26 +1,24 @@
 -- The tests 6 to 8 on bytes tell refusals 6 to 8 of the model.
 use mathlib.Core.Path.{_≡_, refl, sym, subst, subst⁻¹, ap, _∙_}
-use mathlib.Core.Logic.{_⊎_, inl, inr}
-use mathlib.Core.Bool.{Bool, true, false, not, _&&_, _||_}
-use mathlib.Core.Option.{Option, none, some}
+use mathlib.Core.Bool.{Bool, true, not}
+use mathlib.Core.Option.{some}
 use mathlib.Core.List.{List}
 use Prim.Native.Nat.{ℕ, _<_, _≤_}
 use native.Mathlib.Omega.{arith}
-use lib.Dec.{T, eqb, ltb}
-use Rattle.laws.specs.Says.{Says, anyBelow}
+use lib.Dec.{eqb, ltb}
+use Rattle.laws.specs.Says.{Says}
 use Rattle.laws.proofs.Says.{says-yes, says-no, says-T, says-eq, says-lt, says-not, says-and, says-and-then, says-iff, says-dec, says-any-below}
 use Rattle.events.specs.declared.Value.{Value}
 use Rattle.events.specs.declared.Value.the-variants.{U, Known}
 use Rattle.events.specs.declared.Event.{Event}
 use Rattle.events.specs.declared.Link.{Link}
 use Rattle.events.specs.declared.Link.the-variants.{Absent, To}
-use Rattle.events.specs.declared.Record.{Record}
-use Rattle.events.specs.Words.{isInit, isRead, isWrite, locationOf, readOf, writtenOf, oneLocation}
-use Rattle.record.specs.Form.{pick, byteAt, threadByte, parentByte, flagsByte, readU, encode, part, linkByte, columnsOf, numberOr0, valueOr0}
+use Rattle.events.specs.Words.{isWrite, readOf, writtenOf, oneLocation}
+use Rattle.record.specs.Form.{pick, threadByte, flagsByte, readU, encode, part, linkByte, columnsOf}
 use Rattle.record.proofs.RoundTrip.{Proper}
 use Rattle.model.specs.Table.{Table, IsInit, Read, Write, Source, NoSource, OneLocation, thread}
 use Rattle.model.specs.WellFormed.{Root, Refused6, no-root, no-parent, parent-not-earlier, other-thread, thread-stood, EarlierWrite, Refused7, no-earlier-write, other-value, known-from-u, known-from-nothing, TwoReads, Refused8, twin}
-use Rattle.table.specs.Computed.{earlier, rooted, stood, parentFault, agreeing, suited, sourceFault, sameValue, arms, twinned, twinFault}
+use Rattle.table.specs.Computed.{earlier, rooted, stood, parentFault, agreeing, suited, sourceFault, arms, twinned, twinFault}
 use Rattle.table.proofs.Bytewise.{says-pick, says-link, says-absent, says-earlier, says-init, says-reads, says-writes, says-reads-alike, says-write-alike, read-some, written-some, known-not-u, says-read-u, says-value, says-unnot, read-of, Clash, numbers-differ, u-written, says-clash}
 
 -- the records of t before number n stand in b as they are written, and none up to n has a link to 255

@@ -4,13 +4,13 @@ use mathlib.Core.List.{List}
 use Prim.Native.Nat.{ℕ, _<_}
 use native.Mathlib.Omega.{arith}
 use native.Mathlib.Decide.{decLt}
-use lib.Dec.{T, eqb}
+use lib.Dec.{eqb}
 use Rattle.refusals.specs.declared.Fault.{Fault}
 use Rattle.refusals.specs.declared.Fault.the-variants.{Mark, Kind, Rest, Range, Parent, Source, Twin}
 use Rattle.refusals.specs.declared.Refusal.{Refusal}
 use Rattle.refusals.specs.declared.Refusal.the-variants.{Length, Record, Selection, Incomplete, Room, Full, Past}
 use Rattle.refusals.specs.Numbers.{faultNumber, numberOf, placeOf}
-use Rattle.record.specs.declared.Decoded.the-variants.{Good, Bad}
+use Rattle.record.specs.declared.Decoded.the-variants.{Bad}
 use Rattle.record.specs.Form.{pick, decode, part}
 use Rattle.table.specs.declared.Checked.{Checked}
 use Rattle.table.specs.declared.Checked.the-variants.{Faulty}

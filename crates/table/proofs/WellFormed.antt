@@ -1,11 +1,10 @@
 -- A table that is not refused is a well-formed table of the model.
-use mathlib.Core.Path.{_≡_, refl, sym, subst, ap, _∙_}
+use mathlib.Core.Path.{_≡_, refl, sym, ap, _∙_}
 use mathlib.Core.List.{List, []}
-use Prim.Native.Nat.{ℕ, _*_, _/_, _%_, _<_, _≤_}
+use Prim.Native.Nat.{ℕ, _%_, _<_}
 use native.Mathlib.Omega.{arith}
 use lib.Dec.{T}
 use lib.ListN.{length}
-use Rattle.record.specs.declared.Decoded.{Decoded}
 use Rattle.record.specs.Form.{decidedBy, decode, part}
 use Rattle.record.proofs.RoundTrip.{proper}
 use Rattle.record.proofs.Parts.{part-past}

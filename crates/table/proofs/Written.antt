@@ -1,7 +1,7 @@
 -- Round trips of a whole table: written out and read back it is the same events, and read and written back the same bytes.
 use mathlib.Core.Path.{_≡_, refl, sym, subst, subst⁻¹, ap, ap₂, _∙_}
-use mathlib.Core.List.{List, [], _++_}
-use Prim.Native.Nat.{ℕ, zero, suc, _+_, _*_, _/_, _%_, _<_, _≤_}
+use mathlib.Core.List.{List, _++_}
+use Prim.Native.Nat.{ℕ, zero, suc, _+_, _*_, _%_, _<_, _≤_}
 use native.Mathlib.Omega.{arith}
 use native.Mathlib.Decide.{decLt}
 use lib.Dec.{T}
@@ -16,11 +16,11 @@ use Rattle.record.proofs.Parts.{encode-length, part-length, part-append, part-l
 use Rattle.model.specs.Table.{Table, Ends, Inside}
 use Rattle.model.specs.WellFormed.{WellFormed, Sound as Model·Sound}
 use Rattle.table.specs.declared.Tested.the-variants.{Sound}
-use Rattle.table.specs.Events.{countOf, recordOf, eventsOf, written, bytesOf}
+use Rattle.table.specs.Events.{countOf, eventsOf, written, bytesOf}
 use Rattle.limits.specs.Limit.{limit}
-use Rattle.table.specs.Test.{lengthOk, Decodes, Passes, RecordsAnswer, sound, TestAnswer, records}
+use Rattle.table.specs.Test.{lengthOk, Passes, RecordsAnswer, sound, TestAnswer, records}
 use Rattle.table.proofs.Exact.{at-decoded, decoded-at}
-use Rattle.table.proofs.Front.{right-length, front-whole}
+use Rattle.table.proofs.Front.{front-whole}
 use Rattle.table.proofs.WellFormed.{test-pass, events-end, sound-count}
 
 -- ---- the records one after another

@@ -4,3 +4,4 @@ pub mod Test
 pub mod Fetched
 pub mod Computed
 pub mod Part
+pub mod New

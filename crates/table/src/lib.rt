@@ -3,13 +3,13 @@ mod faults;
 mod pairs;
 
 ghost use mathlib.Core.Path.{_≡_};
-ghost use mathlib.Core.List.{_++_};
 ghost use Prim.Native.Nat.{_+_, _*_, _/_, _≤_};
 ghost use lib.ListN.{length, take};
 ghost use Rattle.record.specs.Form.{part};
-ghost use Rattle.table.specs.Computed.{judged, checkedPart, checkedNew};
+ghost use Rattle.table.specs.Computed.{judged, checkedPart};
 ghost use Rattle.table.specs.Events.{recordOf, eventsOf};
 ghost use Rattle.table.specs.Fetched.{fetched, FetchAnswer};
+ghost use Rattle.table.specs.New.{NewAnswer};
 ghost use Rattle.table.specs.Part.{Against};
 ghost use Rattle.table.specs.Test.{lengthOk, RecordsAnswer, TestAnswer};
 use events::Event;
@@ -80,7 +80,7 @@ fn check_record(table: &[u8], n: usize) -> Checked
 // The test of a record that is to stand after the first n, "as if its bytes were read".
 pub fn check_new(table: &[u8], n: usize, r: Record) -> Checked
     requires { ⌜ 16 * n ≤ length (now table) ⌝ }
-    ensures { λ c. ⌜ c ≡ checkedNew (now (table .entry)) n r ⌝ }
+    ensures { λ c. ⌜ NewAnswer (now (table .entry)) n r c ⌝ }
 {
     let new = record::bytes_of(r);
     check_part(table, n, &new)

@@ -1,6 +1,6 @@
 // The edges of document 01 on tables as bytes, one table for each refusal from 1 to 8, and the fetch: what the code says of them.
 ghost use mathlib.Core.Path.{_≡_};
-ghost use Prim.Native.Nat.{_<_, _≤_};
+ghost use Prim.Native.Nat.{_<_};
 ghost use lib.ListN.{length};
 use events::Event;
 use events::Link;

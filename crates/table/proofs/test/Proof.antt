@@ -1,14 +1,10 @@
 -- `table::test` meets its contract: a table of a right length is all of its own first records.
-use mathlib.Core.Path.{_≡_, refl, sym, subst, _∙_}
-use mathlib.Core.Bool.{true, false}
-use mathlib.Core.List.{List}
-use Prim.Native.Nat.{ℕ, _*_}
-use lib.Dec.{T}
+use mathlib.Core.Path.{refl, sym, _∙_}
 use lib.ListN.{length}
 use borrow.Author.Needs.{needs}
 use denote.Ref.{now}
 use Rattle.laws.proofs.Says.{said, denied, says-T}
-use Rattle.table.specs.Test.{lengthOk, RecordsAnswer, wrong-length, records}
+use Rattle.table.specs.Test.{lengthOk, wrong-length, records}
 use Rattle.table.proofs.Front.{front-whole}
 use Rattle.table.proofs.test.Statement.{statement}
 use Rattle.table.proofs.test.Tie as tie

@@ -1,5 +1,5 @@
 -- `table::test_records` meets its contract: every record below n passes, in the table of the first `count` records.
-use mathlib.Core.Path.{_≡_, sym, subst, _∙_}
+use mathlib.Core.Path.{sym, subst}
 use Prim.Native.Nat.{ℕ, _*_, _-_, _<_, _≤_}
 use native.Mathlib.Omega.{arith}
 use lib.ListN.{take}
@@ -7,7 +7,6 @@ use borrow.Author.Count.{below-more}
 use borrow.Author.Needs.{needs}
 use denote.Ref.{now}
 use Rattle.record.specs.Fits.{Bytes}
-use Rattle.table.specs.declared.Checked.{Checked}
 use Rattle.table.specs.declared.Tested.the-variants.{Sound}
 use Rattle.table.specs.Test.{Passes, CheckAnswer, first-fault, RecordsAnswer, refused, sound}
 use Rattle.table.proofs.Exact.{passes-of, fault-of}

@@ -1,6 +1,5 @@
 -- `cell::from_source` meets its contract, by the link of the source.
 use mathlib.Core.Path.{sym, _∙_}
-use native.Mathlib.Omega.{arith}
 use borrow.Author.Needs.{needs}
 use Rattle.relations.proofs.Telling.{the-source, source-low, says-by-source, says-no-source}
 use Rattle.relations.proofs.cell.from_source.Statement.{statement}

@@ -3,7 +3,7 @@ use mathlib.Core.Path.{sym, _∙_}
 use borrow.Author.Needs.{needs}
 use Rattle.laws.proofs.Says.{says-no, says-and, says-iff}
 use Rattle.model.proofs.Fields.{absent-to}
-use Rattle.relations.proofs.Telling.{says-is, the-source}
+use Rattle.relations.proofs.Telling.{says-is}
 use Rattle.relations.proofs.Reading.{some-race, some-write}
 use Rattle.relations.proofs.reads.stands_on_race.Statement.{statement}
 use Rattle.relations.proofs.reads.stands_on_race.Tie as tie

@@ -1,4 +1,5 @@
 -- `sequential::hbsc_matrix` meets its contract: po≠ is made, then its products, then hbsc.
+use native.Mathlib.Omega.{arith}
 use borrow.Author.Needs.{needs}
 use Rattle.relations.proofs.Counting.{square-few}
 use Rattle.relations.proofs.Making.{made-room, made-given, given-matrix}
@@ -14,12 +15,14 @@ fill-requires c κs =
 compose-requires : tie.Need-compose-requires
 compose-requires c κs =
     let (counted, po, hb, room) = c .before .before .before .before .before .before .before .before .before .pre in
-    (given-matrix (made-given (square-few counted) (c .before .before .before .fill .ensures)), hb .room, square-few counted)
+    (given-matrix (made-given (square-few counted) (c .before .before .before .fill .ensures)), omega arith, square-few counted)
 
 compose-requires-2 : tie.Need-compose-requires-2
 compose-requires-2 c κs =
-    let room = square-few (c .before .before .before .before .before .before .before .before .before .before .before .before .before .before .pre .0) in
-    (given-matrix (made-given room (c .before .before .before .before .compose .ensures)), made-room room (c .before .before .before .before .before .before .before .before .fill .ensures), room)
+    let few = square-few (c .before .before .before .before .before .before .before .before .before .before .before .before .before .before .pre .0) in
+    let elsewhere = made-room few (c .before .before .before .before .before .before .before .before .fill .ensures) in
+    let then-hb = made-given few (c .before .before .before .before .compose .ensures) in
+    (given-matrix then-hb, omega arith, few)
 
 fill-requires-2 : tie.Need-fill-requires-2
 fill-requires-2 c κs =

@@ -1,7 +1,7 @@
 -- `shown::sources_conflict` meets its contract, by the link of the later record's source.
 use mathlib.Core.Path.{sym, _∙_}
 use borrow.Author.Needs.{needs}
-use Rattle.laws.proofs.Says.{says-and, says-iff}
+use Rattle.laws.proofs.Says.{says-and}
 use Rattle.relations.proofs.Telling.{told, told-of-source, the-source, source-low, says-by-source, says-no-source, says-A3}
 use Rattle.relations.proofs.shown.sources_conflict.Statement.{statement}
 use Rattle.relations.proofs.shown.sources_conflict.Tie as tie

@@ -1,19 +1,15 @@
 -- `writes::hand_from` meets its contract: from nothing, first the one column and then the other is handed on.
 use native.Mathlib.Omega.{arith}
-use Rattle.matrix.proofs.Cells.{bits-of}
 use Rattle.relations.proofs.Making.{made-joined}
+use Rattle.relations.proofs.Owning.{owners-of}
 use Rattle.relations.proofs.writes.hand_from.Statement.{statement}
 use Rattle.relations.proofs.writes.hand_from.Tie as tie
 
 scatter-requires : tie.Need-scatter-requires
-scatter-requires c κs =
-    let s = c .before .before .before .before .before .before .before .before .before in
-    record { column = s .pre .column; from = s .pre .from; to = record { room = omega arith; bits = bits-of (c .before .before .before .clear .ensures .rows) } }
+scatter-requires c κs = owners-of (omega arith) (c .before .before .before .before .before .before .before .before .before .pre .from) (omega arith) (c .before .before .before .clear .ensures .rows)
 
 scatter-requires-2 : tie.Need-scatter-requires-2
-scatter-requires-2 c κs =
-    let s = c .before .before .before .before .before .before .before .before .before .before .before .before .before in
-    record { column = s .pre .column′; from = s .pre .from; to = record { room = omega arith; bits = bits-of (c .before .before .before .scatter .ensures .rows) } }
+scatter-requires-2 c κs = owners-of (omega arith) (c .before .before .before .before .before .before .before .before .before .before .before .before .before .pre .from) (omega arith) (c .before .before .before .scatter .ensures .rows)
 
 returns : tie.Need-returns
 returns c = made-joined (c .before .before .before .before .before .before .before .before .before .before .clear .ensures) (c .before .before .before .before .before .before .scatter .ensures) (c .before .before .scatter2 .ensures)

@@ -18,10 +18,10 @@ abbrev μ-loop : tie.MeasureT-loop
 μ-loop table n own₀ sources₀ v₀ own sources v = n - v
 
 own-number-requires : tie.Need-own-number-requires Inv-loop μ-loop
-own-number-requires c κs = record { table = c .before .before .before .before .before .pre .0; inside = omega arith }
+own-number-requires c κs = (c .before .before .before .before .before .pre .0 .sound, omega (arith, c .before .before .before .before .before .pre .0 .all))
 
 source-number-requires : tie.Need-source-number-requires Inv-loop μ-loop
-source-number-requires c κs = record { table = c .before .before .before .before .before .before .pre .0; inside = omega arith }
+source-number-requires c κs = (c .before .before .before .before .before .before .pre .0 .sound, omega (arith, c .before .before .before .before .before .before .pre .0 .all))
 
 loop-again : tie.Need-loop-again Inv-loop μ-loop
 loop-again c =

@@ -1,0 +1,85 @@
+-- Any two answers of a cut to one input are equal, in the answer and in every byte.
+use mathlib.Core.Path.{_≡_, refl, sym, subst, ap, _∙_}
+use mathlib.Core.Bool.{Bool}
+use mathlib.Core.List.{List}
+use mathlib.Core.Option.{Option, none, some}
+use Prim.Native.Nat.{ℕ, _*_, _≤_}
+use native.Mathlib.Omega.{arith}
+use lib.ListN.{length}
+use Rattle.refusals.specs.declared.Refusal.{Refusal}
+use Rattle.laws.specs.Least.{LeastNumber}
+use Rattle.laws.proofs.Least.{number-unique}
+use Rattle.model.specs.Cut.{newNumber}
+use Rattle.table.specs.declared.Tested.the-variants as tested
+use Rattle.table.specs.Events.{eventsOf}
+use Rattle.table.specs.Test.{TestAnswer}
+use Rattle.table.proofs.Unique.{test-one}
+use Rattle.edit.specs.declared.cutting.CutDown.{CutDown}
+use Rattle.edit.specs.declared.cutting.CutDown.the-variants.{Refused, Kept}
+use Rattle.edit.specs.Selection.{Refused9}
+use Rattle.edit.specs.Cut.{Lacking, Selected, Whole, Decides, bad-table, bad-selection, lacking, no-room, good, bytesAfter, CutAnswer}
+use Rattle.edit.proofs.OneAppend.{same-refusal, refused-inside}
+
+sound-inside : {m n : ℕ} → tested.Sound m ≡ tested.Sound n → m ≡ n
+sound-inside e = cc
+
+some-inside : {m n : ℕ} → some m ≡ some n → m ≡ n
+some-inside e = cc
+
+module _ {b : List ℕ} where
+  not-sound : {A : Type 0} {n : ℕ} {r : Refusal} → TestAnswer b (tested.Sound n) → TestAnswer b (tested.Refused r) → A
+  not-sound x y =
+      let e = test-one x y in
+      absurd (let z : _≡_ {A = ℕ} 0 1 = cc in omega arith)
+
+  one-count : {m n : ℕ} → TestAnswer b (tested.Sound m) → TestAnswer b (tested.Sound n) → m ≡ n
+  one-count x y = sound-inside (test-one x y)
+
+module _ {b : List ℕ} {k : ℕ → Bool} where
+  not-selected : {A : Type 0} {m n : ℕ} → TestAnswer b (tested.Sound m) → Refused9 k m → Selected b k n → A
+  not-selected x z s = absurd (s .not-9 (subst (Refused9 k) (one-count x (s .sound)) z))
+
+  not-whole : {A : Type 0} {m n : ℕ} → LeastNumber (Lacking k (eventsOf b)) (some m) → Whole b k n → A
+  not-whole x w =
+      let e = number-unique x (w .not-10) in
+      absurd (let z : _≡_ {A = ℕ} 0 1 = cc in omega arith)
+
+  short :
+      {A : Type 0} {m n : ℕ} (before : List ℕ) → Whole b k m → Whole b k n → ¬ (16 * newNumber k m ≤ length before) → 16 * newNumber k n ≤ length before → A
+  short before v w tight l =
+      let e = ap (newNumber k) (one-count (v .selected .sound) (w .selected .sound)) in
+      absurd (tight (omega arith))
+
+  module _ {before : List ℕ} where
+    decides-one : {x y : CutDown} → Decides b k before x → Decides b k before y → x ≡ y
+    decides-one (bad-table x) (bad-table y) = ap Refused (refused-inside (test-one x y))
+    decides-one (bad-table x) (bad-selection y _ _ _) = not-sound y x
+    decides-one (bad-table x) (lacking y _ _ _) = not-sound (y .sound) x
+    decides-one (bad-table x) (no-room y _ _ _) = not-sound (y .selected .sound) x
+    decides-one (bad-table x) (good y _) = not-sound (y .selected .sound) x
+    decides-one (bad-selection x _ _ _) (bad-table y) = not-sound x y
+    decides-one (bad-selection _ _ i p) (bad-selection _ _ j q) = ap Refused (same-refusal i p j q)
+    decides-one (bad-selection x z _ _) (lacking y _ _ _) = not-selected x z y
+    decides-one (bad-selection x z _ _) (no-room y _ _ _) = not-selected x z (y .selected)
+    decides-one (bad-selection x z _ _) (good y _) = not-selected x z (y .selected)
+    decides-one (lacking x _ _ _) (bad-table y) = not-sound (x .sound) y
+    decides-one (lacking x _ _ _) (bad-selection y z _ _) = not-selected y z x
+    decides-one (lacking _ x i p) (lacking _ y j q) = ap Refused (same-refusal i p j (q ∙ some-inside (number-unique y x)))
+    decides-one (lacking _ x _ _) (no-room y _ _ _) = not-whole x y
+    decides-one (lacking _ x _ _) (good y _) = not-whole x y
+    decides-one (no-room x _ _ _) (bad-table y) = not-sound (x .selected .sound) y
+    decides-one (no-room x _ _ _) (bad-selection y z _ _) = not-selected y z (x .selected)
+    decides-one (no-room x _ _ _) (lacking _ y _ _) = not-whole y x
+    decides-one (no-room _ _ i p) (no-room _ _ j q) = ap Refused (same-refusal i p j q)
+    decides-one (no-room x tight _ _) (good y l) = short before x y tight l
+    decides-one (good x _) (bad-table y) = not-sound (x .selected .sound) y
+    decides-one (good x _) (bad-selection y z _ _) = not-selected y z (x .selected)
+    decides-one (good x _) (lacking _ y _ _) = not-whole y x
+    decides-one (good x l) (no-room y tight _ _) = short before y x tight l
+    decides-one (good x _) (good y _) = ap (λ (n : ℕ). Kept (newNumber k n)) (one-count (x .selected .sound) (y .selected .sound))
+
+    pub cut-one :
+        {after after′ : List ℕ} {x y : CutDown} → CutAnswer b k before after x → CutAnswer b k before after′ y → (x ≡ y) × (after ≡ after′)
+    cut-one p q =
+        let same = decides-one (p .decided) (q .decided) in
+        (same, p .bytes ∙ (ap (bytesAfter b k before) same ∙ sym (q .bytes)))

@@ -1,0 +1,39 @@
+-- The bytes of a sound table's record lead to earlier records, or nowhere.
+use mathlib.Core.Path.{_≡_, refl, sym, ap, _∙_}
+use mathlib.Core.List.{List}
+use Prim.Native.Nat.{ℕ, _+_, _*_, _<_, _≤_}
+use native.Mathlib.Omega.{arith}
+use lib.ListN.{length, set}
+use borrow.Author.Tests.{ne-eqb}
+use Rattle.events.specs.declared.Link.{Link}
+use Rattle.events.specs.declared.Link.the-variants.{Absent, To}
+use Rattle.events.specs.declared.Record.{Record}
+use Rattle.record.specs.Form.{pick, parentByte, sourceByte, linkFrom, part}
+use Rattle.record.proofs.Parts.{part-length}
+use Rattle.model.proofs.Facts.{parent-earlier, has-source, source-is-earlier-write}
+use Rattle.table.specs.Events.{eventsOf}
+use Rattle.facts.specs.Sound.{SoundTable, Asked}
+use Rattle.facts.proofs.Bytes.{asked-read, asked-room}
+use Rattle.edit.specs.Cut.{renumberedLink, renumberedBytes}
+
+-- record n's sixteen bytes
+pub record Earlier (n : ℕ) (p : List ℕ) : Type 0 where
+  pub long : length p ≡ 16
+  pub parent : ¬ (parentByte p ≡ 255) → parentByte p < n
+  pub source : ¬ (sourceByte p ≡ 255) → sourceByte p < n
+
+link-to : (byte : ℕ) → ¬ (byte ≡ 255) → linkFrom byte ≡ To byte
+unfolding linkFrom
+link-to byte h = rw (ne-eqb byte 255 h)
+
+pub earlier : (b : List ℕ) (n : ℕ) → Asked b n → Earlier n (part b n)
+earlier b n a =
+    let read = asked-read b n a in
+    let formed = a .0 .formed in
+    let p = part b n in
+    record {
+      long = part-length b n (asked-room b n a);
+      parent = λ h. parent-earlier formed (parentByte p) n (ap (λ (r : Record). r .parent) (sym (read .is)) ∙ link-to (parentByte p) h);
+      source = λ h.
+          source-is-earlier-write formed (has-source formed (sourceByte p) n (ap (λ (r : Record). r .source) (sym (read .is)) ∙ link-to (sourceByte p) h)) .earlier;
+    }

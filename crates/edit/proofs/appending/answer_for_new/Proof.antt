@@ -1,0 +1,44 @@
+-- `appending::answer_for_new` meets its contract: the test of the new record is its test in the extended table.
+use mathlib.Core.Path.{_≡_, refl, sym, subst}
+use native.Mathlib.Omega.{arith}
+use borrow.Author.Needs.{needs}
+use denote.Ref.{now}
+use Rattle.table.specs.Test.{CheckAnswer}
+use Rattle.table.proofs.Exact.{passes-of, fault-of}
+use Rattle.edit.specs.Append.{Ready, full, no-room, bad-new, good, extended}
+use Rattle.edit.proofs.NewRecord.{in-use-pass}
+use Rattle.edit.proofs.appending.answer_for_new.Statement.{statement}
+use Rattle.edit.proofs.appending.answer_for_new.Tie as tie
+
+returns : tie.Need-returns
+returns c = full (c .before .before .pre) (c .if1 .taken) refl refl
+
+ready : (c : tie.After-check-new) → Ready (now (c .before .before .before .before .args .buffer)) (c .before .before .before .before .args .used)
+ready c = record {
+  sound-use = c .before .before .before .before .pre;
+  not-full = c .before .before .if1 .left;
+  room = c .before .if2 .taken;
+}
+
+checked :
+    (c : tie.After-check-new) → CheckAnswer (extended (now (c .before .before .before .before .args .buffer)) (c .before .before .before .before .args .used) (c .before .before .before .before .args .new)) (c .before .before .before .before .args .used) (c .check-new .result)
+checked c =
+    let s = c .before .before .before .before in
+    c .check-new .ensures .exact (in-use-pass (s .pre))
+
+returns-2 : tie.Need-returns-2
+returns-2 c = good (ready (c .before .before)) (passes-of (rw (c .enum-told .given .1) at (checked (c .before .before))))
+
+returns-3 : tie.Need-returns-3
+returns-3 c =
+    let k = c .before .before .before in
+    bad-new (ready k) (fault-of (rw (c .before .f .given .1) at (checked k))) refl refl
+
+returns-4 : tie.Need-returns-4
+returns-4 c =
+    no-room (c .before .before .before .pre) (c .before .if1 .left) (λ h. absurd (omega (arith, c .if2 .left))) refl refl
+
+pub answer-for-new-spec : {M : Type 1} → statement M
+answer-for-new-spec =
+    tie.close
+    (tie.spec returns (search needs) (search needs) (search needs) (search needs) (search needs) (search needs) returns-2 returns-3 returns-4)

@@ -1,0 +1,28 @@
+-- `completeness::lacks` meets its contract.
+use borrow.Author.Needs.{needs}
+use Rattle.edit.proofs.Completing.{parent-low, source-low, lacking-told}
+use Rattle.edit.proofs.completeness.lacks.Statement.{statement}
+use Rattle.edit.proofs.completeness.lacks.Tie as tie
+
+link-kept-requires : tie.Need-link-kept-requires
+link-kept-requires c κs =
+    let s = c .before .before .before .before .before in
+    parent-low (s .pre .0) (s .pre .1) (c .parent .ensures)
+
+link-kept-requires-2 : tie.Need-link-kept-requires-2
+link-kept-requires-2 c κs =
+    let s = c .before .before .before .before .before .before .before in
+    source-low (s .pre .0) (s .pre .1) (c .source .ensures)
+
+returns : tie.Need-returns
+returns c =
+    let raced = c .before in
+    let sourced = raced .before .before in
+    let parented = sourced .before .before in
+    let s = parented .before .before .before .before .before in
+    lacking-told (s .pre .0) (s .pre .1) (parented .parent .ensures) (sourced .source .ensures) (sourced .before .link-kept .ensures) (raced .before .link-kept2 .ensures) (raced .race-kept .ensures)
+
+pub lacks-spec : {M : Type 1} → statement M
+lacks-spec =
+    tie.close
+    (tie.spec (λ c κs. search needs) link-kept-requires (λ c κs. search needs) link-kept-requires-2 (λ c κs. search needs) (λ c. search needs) returns)

@@ -1,0 +1,33 @@
+-- `cutting::cut_by` meets its contract.
+use mathlib.Core.Path.{_≡_, refl}
+use borrow.Author.Needs.{needs}
+use denote.Ref.{now}
+use Rattle.edit.specs.Cut.{lacking}
+use Rattle.edit.proofs.Answering.{counted}
+use Rattle.edit.proofs.cutting.cut_by.Statement.{statement}
+use Rattle.edit.proofs.cutting.cut_by.Tie as tie
+
+least-lacking-requires : tie.Need-least-lacking-requires
+least-lacking-requires c κs =
+    let s = c .before .before .before in
+    (counted (now (s .args .table)) (s .args .count) (s .pre .selected .sound), s .pre .room)
+
+cut-complete-requires : tie.Need-cut-complete-requires
+cut-complete-requires c κs =
+    let asked = c .before .before .before in
+    let s = asked .before .before .before .before in
+    record { whole = record { selected = s .pre .selected; not-10 = rw (c .before .enum-told .given .1) at (asked .least-lacking .ensures) }; room = s .pre .room }
+
+returns : tie.Need-returns
+returns c =
+    let asked = c .before .before .before in
+    let s = asked .before .before .before .before in
+    record {
+      decided = lacking (s .pre .selected) (rw (c .before .n .given .1) at (asked .least-lacking .ensures)) refl refl;
+      bytes = refl;
+    }
+
+pub cut-by-spec : {M : Type 1} → statement M
+cut-by-spec =
+    tie.close
+    (tie.spec least-lacking-requires (search needs) (search needs) cut-complete-requires returns (search needs) (λ c. c .before .before .cut-complete .ensures))

@@ -1,0 +1,57 @@
+-- `cutting::cut_complete` meets its contract.
+use mathlib.Core.Path.{_≡_}
+use Prim.Native.Nat.{ℕ, _≤_}
+use native.Mathlib.Omega.{arith}
+use borrow.Author.Needs.{needs}
+use denote.Ref.{now}
+use Rattle.model.proofs.CutNumbers.{new-at-most}
+use Rattle.relations.specs.Asked.{Counted}
+use Rattle.relations.proofs.Counting.{few}
+use Rattle.edit.specs.Columns.{keptBy}
+use Rattle.edit.proofs.Answering.{counted, kept-answer, no-room-answer}
+use Rattle.edit.proofs.cutting.cut_complete.Statement.{statement}
+use Rattle.edit.proofs.cutting.cut_complete.Tie as tie
+
+sound : (s : tie.Start) → Counted (now (s .args .table)) (s .args .count)
+sound s = counted (now (s .args .table)) (s .args .count) (s .pre .whole .selected .sound)
+
+number-requires : tie.Need-number-requires
+number-requires c κs =
+    let s = c .before .before .before .before in
+    record { few = few (sound s); column = s .pre .room; room = few (sound s) }
+
+mul-if1 : tie.Need-mul-if1
+mul-if1 c =
+    let s = c .before .before .before .before .before .before in
+    omega (arith, c .before .number .ensures .next, new-at-most (keptBy (now (s .args .kept))) (s .args .count), few (sound s))
+
+write-kept-requires : tie.Need-write-kept-requires
+write-kept-requires c κs =
+    let numbered = c .before .before .before .before in
+    let s = numbered .before .before .before .before .before in
+    record {
+      table = sound s;
+      column = s .pre .room;
+      numbered = numbered .number .ensures .each;
+      columns = omega (arith, few (sound s));
+      room = omega (arith, c .before .before .if1 .taken, numbered .number .ensures .next);
+    }
+
+returns : tie.Need-returns
+returns c =
+    let written = c .before .before in
+    let tested = written .before .before .before in
+    let numbered = tested .before .before in
+    let s = numbered .before .before .before .before .before in
+    kept-answer (s .pre .whole) (numbered .number .ensures .next) (tested .if1 .taken) (written .write-kept .ensures)
+
+returns-2 : tie.Need-returns-2
+returns-2 c =
+    let numbered = c .before .before in
+    let s = numbered .before .before .before .before .before in
+    no-room-answer (s .pre .whole) (numbered .number .ensures .next) (c .if1 .left)
+
+pub cut-complete-spec : {M : Type 1} → statement M
+cut-complete-spec =
+    tie.close
+    (tie.spec (search needs) number-requires mul-if1 (search needs) write-kept-requires (search needs) returns returns-2)

@@ -1,0 +1,59 @@
+-- `writing::write_kept` meets its contract: the kept ones of the first n records are written.
+use mathlib.Core.Path.{_≡_, refl, ap, _∙_}
+use mathlib.Core.Logic.{⊎-elim}
+use Prim.Native.Nat.{_-_, _≤_}
+use native.Mathlib.Omega.{arith}
+use lib.ListN.{length}
+use denote.Ref.{now}
+use Rattle.laws.proofs.Says.{says-eq}
+use Rattle.edit.specs.Columns.{keptBy, numberIn}
+use Rattle.edit.specs.Cut.{keptBytes, cutBytes}
+use Rattle.edit.proofs.WritingOut.{written-length, placing, one-written, none-written}
+use Rattle.edit.proofs.writing.write_kept.Statement.{statement}
+use Rattle.edit.proofs.writing.write_kept.Tie as tie
+
+abbrev Inv-loop : tie.InvT-loop
+Inv-loop table kept numbers count out₀ n₀ out n = (n ≤ count) × (out ≡ cutBytes (keptBy kept) table n out₀)
+
+abbrev μ-loop : tie.MeasureT-loop
+μ-loop table kept numbers count out₀ n₀ out n = count - n
+
+loop-holds : tie.Need-loop-holds Inv-loop μ-loop
+unfolding keptBytes
+loop-holds c = (omega arith, refl)
+
+shared-slice-read-if1 : tie.Need-shared-slice-read-if1 Inv-loop μ-loop
+shared-slice-read-if1 c = omega (arith, c .before .before .before .before .before .before .before .pre .column)
+
+write-record-requires : tie.Need-write-record-requires Inv-loop μ-loop
+write-record-requires c κs =
+    let l = c .before .before .before .before in
+    let kept = now (l .before .before .before .before .before .args .kept) in
+    placing (l .before .before .before .before .before .pre) (c .before .before .before .loop-test .taken) (l .loop .inv .1)
+    (says-eq (numberIn kept (l .loop .n)) 1 .from (c .before .if1 .taken))
+
+loop-again : tie.Need-loop-again Inv-loop μ-loop
+loop-again c =
+    let l = c .before .before .before in
+    let s = l .before .before .before .before .before in
+    let is = says-eq (numberIn (now (s .args .kept)) (l .loop .n)) 1 in
+    let h = c .before .before .loop-test .taken in
+    ⊎-elim
+    (λ w. (omega arith, w .5 ∙ one-written (s .pre) h (l .loop .inv .1) (is .from (w .0 .taken)) (w .2 .ensures)))
+    (λ w. (omega arith, w .1 ∙ none-written (s .pre) h (l .loop .inv .1) (λ x. w .0 .left (is .to x))))
+    (c .if1 .came)
+
+same-length : tie.Need-same-length Inv-loop μ-loop
+same-length c =
+    let s = c .before .before .before .before .before .before in
+    ap length (c .before .loop .inv .1) ∙ written-length (s .pre) (c .before .loop .inv .0)
+
+returns : tie.Need-returns Inv-loop μ-loop
+returns c =
+    let e : c .before .loop .n ≡ c .before .before .before .before .before .before .args .count = omega arith in
+    rw e at (c .before .loop .inv .1)
+
+pub write-kept-spec : {M : Type 1} → statement M
+write-kept-spec =
+    tie.close
+    (tie.spec Inv-loop μ-loop loop-holds shared-slice-read-if1 write-record-requires (λ c. omega arith) (λ c. omega arith) loop-again same-length returns)

@@ -1,0 +1,69 @@
+// A cut: the selected records of a table, written to a lent output.
+ghost use mathlib.Core.Path.{_≡_};
+ghost use Rattle.table.specs.declared.Tested.the-variants.{Sound};
+ghost use Rattle.table.specs.Test.{TestAnswer};
+ghost use Rattle.edit.specs.Columns.{keptBy, Choice, Completed};
+ghost use Rattle.edit.specs.Cut.{CutAnswer};
+ghost use Rattle.edit.specs.Selection.{named};
+use crate::choosing::choose;
+use crate::completeness::least_lacking;
+use crate::numbering::number;
+use crate::writing::write_kept;
+use limits::LIMIT;
+use matrix::search::First;
+use record::places::SIZE;
+use refusals::Refusal;
+use table::Tested;
+
+// How many records were kept, or why nothing was written.
+pub enum CutDown {
+    Refused(Refusal),
+    Kept(usize),
+}
+
+// The cut by a column that lacks nothing: 11, or the kept records.
+fn cut_complete(table: &[u8], count: usize, kept: &[u8], out: &mut [u8]) -> CutDown
+    requires { ⌜ Completed (now table) count (now kept) ⌝ }
+    ensures { λ r. ⌜ CutAnswer (now (table .entry)) (keptBy (now (kept .entry))) (now (out .entry)) (now (out .exit)) r ⌝ }
+{
+    let mut numbers = [0u8; LIMIT];
+    let size = number(kept, count, &mut numbers);
+    if SIZE * size <= out.len() {
+        write_kept(table, kept, &numbers, count, out);
+        return CutDown::Kept(size);
+    }
+    CutDown::Refused(Refusal::Room)
+}
+
+// The cut by a column: 10, then the rest.
+fn cut_by(table: &[u8], count: usize, kept: &[u8], out: &mut [u8]) -> CutDown
+    requires { ⌜ Choice (now table) count (now kept) ⌝ }
+    ensures { λ r. ⌜ CutAnswer (now (table .entry)) (keptBy (now (kept .entry))) (now (out .entry)) (now (out .exit)) r ⌝ }
+{
+    match least_lacking(table, kept, count) {
+        First::At(n) => CutDown::Refused(Refusal::Incomplete(n)),
+        First::Nothing => cut_complete(table, count, kept, out),
+    }
+}
+
+// The cut of a sound table: 9, then the rest.
+fn cut_sound(table: &[u8], count: usize, selection: u64, out: &mut [u8]) -> CutDown
+    requires { ⌜ TestAnswer (now table) (Sound count) ⌝ }
+    ensures { λ r. ⌜ CutAnswer (now (table .entry)) (named selection) (now (out .entry)) (now (out .exit)) r ⌝ }
+{
+    let mut kept = [0u8; LIMIT];
+    if choose(selection, count, &mut kept) {
+        return CutDown::Refused(Refusal::Selection);
+    }
+    cut_by(table, count, &kept, out)
+}
+
+// Cuts the table down to the records that the selection names: "bit n for record n".
+pub fn cut(table: &[u8], selection: u64, out: &mut [u8]) -> CutDown
+    ensures { λ r. ⌜ CutAnswer (now (table .entry)) (named selection) (now (out .entry)) (now (out .exit)) r ⌝ }
+{
+    match table::test(table) {
+        Tested::Refused(r) => CutDown::Refused(r),
+        Tested::Sound(count) => cut_sound(table, count, selection, out),
+    }
+}

@@ -1,0 +1,3 @@
+-- The answer of a judging, and what the judge's parts promise each other.
+pub mod Answer
+pub mod Parts
