@@ -7,13 +7,13 @@ use native.Mathlib.Numerals.{add-one}
 use native.Mathlib.Omega.{arith}
 use native.Mathlib.Decide.{decLt}
 use lib.Dec.{T, eqb}
-use lib.ListN.{length, take, drop, set, length-append, length-drop, length-set}
+use lib.ListN.{length, drop, set, length-append, length-drop, length-set}
 use lib.Seq.{take-at, drop-at, drop-drop}
 use borrow.Author.Tests.{eq-eqb}
 use Rattle.record.specs.Form.{pick, parentByte, sourceByte, part, overwritten}
 use Rattle.record.proofs.Parts.{part-length, part-append, part-last}
 use Rattle.model.specs.Cut.{oneMoreIf, newNumber}
-use Rattle.model.proofs.CutNumbers.{new-after-kept, new-after-dropped, new-below, new-rises}
+use Rattle.model.proofs.CutNumbers.{new-after-kept, new-after-dropped, new-below}
 use Rattle.laws.proofs.Says.{says-eq, says-dec}
 use Rattle.edit.specs.Cut.{renumberedLink, renumberedBytes, keptBytes, cutBytes}
 

@@ -1,18 +1,17 @@
 -- Any two answers of an append to one input are equal, in the answer and in every byte.
-use mathlib.Core.Path.{_≡_, refl, sym, subst, ap, ap₂, _∙_}
+use mathlib.Core.Path.{_≡_, refl, sym, subst, ap, _∙_}
 use mathlib.Core.List.{List}
 use Prim.Native.Nat.{ℕ, _+_}
 use native.Mathlib.Omega.{arith}
 use Rattle.events.specs.declared.Record.{Record}
 use Rattle.refusals.specs.declared.Refusal.{Refusal}
 use Rattle.refusals.specs.Numbers.{faultNumber, numberOf, placeOf}
-use Rattle.table.specs.declared.Tested.{Tested}
 use Rattle.table.specs.declared.Tested.the-variants as tested
 use Rattle.table.specs.Test.{RecordsAnswer}
 use Rattle.table.proofs.Unique.{refusal-one, records-one, fault-one, no-fault}
 use Rattle.edit.specs.declared.appending.Appended.{Appended}
 use Rattle.edit.specs.declared.appending.Appended.the-variants.{Refused, Count}
-use Rattle.edit.specs.Append.{InUse, SoundUse, Ready, Decides, not-in-use, bad-record, full, no-room, bad-new, good, front, bytesAfter, AppendAnswer, Appends, nothing, one-more}
+use Rattle.edit.specs.Append.{Decides, not-in-use, bad-record, full, no-room, bad-new, good, bytesAfter, AppendAnswer, Appends, nothing, one-more}
 
 -- two refusals of one number and place
 pub same-refusal : {r s : Refusal} {k p : ℕ} → numberOf r ≡ k → placeOf r ≡ p → numberOf s ≡ k → placeOf s ≡ p → r ≡ s

@@ -1,20 +1,16 @@
 -- The bytes of a sound table's record lead to earlier records, or nowhere.
-use mathlib.Core.Path.{_≡_, refl, sym, ap, _∙_}
+use mathlib.Core.Path.{_≡_, sym, ap, _∙_}
 use mathlib.Core.List.{List}
-use Prim.Native.Nat.{ℕ, _+_, _*_, _<_, _≤_}
-use native.Mathlib.Omega.{arith}
-use lib.ListN.{length, set}
+use Prim.Native.Nat.{ℕ, _<_}
+use lib.ListN.{length}
 use borrow.Author.Tests.{ne-eqb}
-use Rattle.events.specs.declared.Link.{Link}
-use Rattle.events.specs.declared.Link.the-variants.{Absent, To}
+use Rattle.events.specs.declared.Link.the-variants.{To}
 use Rattle.events.specs.declared.Record.{Record}
-use Rattle.record.specs.Form.{pick, parentByte, sourceByte, linkFrom, part}
+use Rattle.record.specs.Form.{parentByte, sourceByte, linkFrom, part}
 use Rattle.record.proofs.Parts.{part-length}
 use Rattle.model.proofs.Facts.{parent-earlier, has-source, source-is-earlier-write}
-use Rattle.table.specs.Events.{eventsOf}
-use Rattle.facts.specs.Sound.{SoundTable, Asked}
+use Rattle.facts.specs.Sound.{Asked}
 use Rattle.facts.proofs.Bytes.{asked-read, asked-room}
-use Rattle.edit.specs.Cut.{renumberedLink, renumberedBytes}
 
 -- record n's sixteen bytes
 pub record Earlier (n : ℕ) (p : List ℕ) : Type 0 where

@@ -2,7 +2,7 @@
 use mathlib.Core.Path.{_≡_, refl, sym, subst, subst⁻¹, ap, ap₂, _∙_}
 use mathlib.Core.Bool.{Bool, true, false}
 use mathlib.Core.List.{List}
-use Prim.Native.Nat.{ℕ, _+_}
+use Prim.Native.Nat.{ℕ}
 use native.Mathlib.Omega.{arith}
 use lib.Dec.{eqb}
 use lib.ListN.{length}
@@ -11,7 +11,7 @@ use Rattle.events.specs.declared.Link.{Link}
 use Rattle.events.specs.declared.Record.{Record}
 use Rattle.laws.proofs.Says.{says-eq, says-dec}
 use Rattle.record.specs.declared.Decoded.the-variants.{Good}
-use Rattle.record.specs.Form.{pick, threadByte, parentByte, sourceByte, linkFrom, recordFrom, decidedBy, decode}
+use Rattle.record.specs.Form.{threadByte, parentByte, sourceByte, linkFrom, recordFrom, decidedBy, decode}
 use Rattle.record.proofs.BytesBack.{firsts, listed}
 use Rattle.record.proofs.RoundTrip.{passed}
 use Rattle.model.specs.Cut.{linkBy, renumbered}

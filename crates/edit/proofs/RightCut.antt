@@ -1,17 +1,16 @@
 -- Demand 3, on the bytes that a cut wrote.
 use mathlib.Core.Path.{_≡_, refl, sym, subst, subst⁻¹, ap, _∙_}
-use mathlib.Core.Bool.{Bool, true, false}
+use mathlib.Core.Bool.{Bool}
 use mathlib.Core.List.{List}
 use mathlib.Core.Option.{none}
-use Prim.Native.Nat.{ℕ, zero, suc, _+_, _*_, _/_, _%_, _<_, _≤_}
+use Prim.Native.Nat.{ℕ, zero, suc, _*_, _%_, _<_}
 use native.Mathlib.Omega.{arith}
 use native.Mathlib.Decide.{decLt}
 use lib.Dec.{T}
 use lib.ListN.{length, take, drop}
 use lib.Seq.{take-at}
-use Rattle.laws.specs.Says.{Says, anyBelow}
 use Rattle.laws.specs.Least.{Least, LeastNumber}
-use Rattle.laws.proofs.Says.{says-T, says-eq, says-le, says-not, says-and, says-dec, says-any-below}
+use Rattle.laws.proofs.Says.{says-T, says-eq, says-le, says-not, says-and, says-dec}
 use Rattle.limits.specs.Limit.{limit}
 use Rattle.record.specs.declared.Decoded.the-variants.{Good}
 use Rattle.record.specs.Form.{parentByte, sourceByte, decode, part}
@@ -25,7 +24,7 @@ use Rattle.model.proofs.Cutting.{cut-invents-no-fault}
 use Rattle.model.proofs.Decide.{race-dec}
 use Rattle.table.specs.declared.Tested.the-variants as tested
 use Rattle.table.specs.Events.{countOf, eventsOf}
-use Rattle.table.specs.Test.{lengthOk, Decodes, Passes, RecordsAnswer, sound, TestAnswer, records}
+use Rattle.table.specs.Test.{lengthOk, Passes, RecordsAnswer, sound, TestAnswer, records}
 use Rattle.table.proofs.Exact.{at-decoded}
 use Rattle.table.proofs.WellFormed.{sound-count, events-end}
 use Rattle.facts.specs.Sound.{SoundTable}
@@ -34,7 +33,7 @@ use Rattle.edit.specs.declared.cutting.CutDown.{CutDown}
 use Rattle.edit.specs.declared.cutting.CutDown.the-variants.{Kept}
 use Rattle.edit.specs.Selection.{Refused9, empty, past-count}
 use Rattle.edit.specs.Cut.{keptBytes, Lacking, Whole, Decides, bad-table, bad-selection, lacking, no-room, good, CutAnswer, RightCut}
-use Rattle.edit.proofs.KeptBytes.{keptPart, kept-length, kept-part}
+use Rattle.edit.proofs.KeptBytes.{kept-length, kept-part}
 use Rattle.edit.proofs.RecordLinks.{earlier}
 use Rattle.edit.proofs.Relinked.{decode-renumbered}
 

@@ -1,5 +1,5 @@
 -- The step of writing a cut: a kept record has its place, and with it one record more is written.
-use mathlib.Core.Path.{_≡_, refl, sym, subst, ap, ap₂, _∙_}
+use mathlib.Core.Path.{_≡_, sym, ap, ap₂, _∙_}
 use mathlib.Core.List.{List}
 use Prim.Native.Nat.{ℕ, _+_, _*_, _<_, _≤_}
 use native.Mathlib.Omega.{arith}
@@ -8,7 +8,6 @@ use lib.ListN.{length}
 use Rattle.record.specs.Form.{part, overwritten}
 use Rattle.model.specs.Cut.{newNumber}
 use Rattle.model.proofs.CutNumbers.{new-below, new-rises}
-use Rattle.table.specs.Events.{eventsOf}
 use Rattle.facts.specs.Sound.{Asked}
 use Rattle.facts.proofs.Bytes.{asked-room}
 use Rattle.edit.specs.Columns.{numberIn, Placing, keptBy, Writing}

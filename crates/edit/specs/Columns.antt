@@ -2,15 +2,12 @@
 use mathlib.Core.Path.{_≡_}
 use mathlib.Core.Bool.{Bool}
 use mathlib.Core.List.{List}
-use mathlib.Core.Option.{none}
 use Prim.Native.Nat.{ℕ, _+_, _*_, _/_, _%_, _^_, _<_, _≤_}
-use lib.Dec.{T, eqb}
+use lib.Dec.{eqb}
 use lib.ListN.{length, getD}
 use Rattle.laws.specs.Says.{Says}
-use Rattle.laws.specs.Least.{LeastNumber}
 use Rattle.limits.specs.Limit.{limit}
 use Rattle.record.specs.Form.{parentByte, sourceByte, part}
-use Rattle.matrix.specs.Matrix.{bitOf}
 use Rattle.model.specs.Relations.{EarlierRace, WriteBefore}
 use Rattle.model.specs.Cut.{newNumber}
 use Rattle.table.specs.Events.{eventsOf}

@@ -1,5 +1,4 @@
 -- Which records a selection names, and when it is refused.
-use mathlib.Core.Path.{_≡_}
 use mathlib.Core.Bool.{Bool}
 use Prim.Native.Nat.{ℕ, _/_, _%_, _^_, _≤_}
 use lib.Dec.{T, eqb}

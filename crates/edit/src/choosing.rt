@@ -1,5 +1,4 @@
 // A selection as a column of bytes, one for each record: the one place that knows how a selection is given.
-ghost use mathlib.Core.Path.{_≡_};
 ghost use Prim.Native.Nat.{_≤_};
 ghost use lib.ListN.{length};
 ghost use Rattle.edit.specs.Selection.{named};

@@ -49,7 +49,7 @@ fn any_kept(kept: &[u8], early: &[u8], count: usize, n: usize) -> bool
     found
 }
 
-// "where it stands on a race, every one of its earlier racing writes" is not what it lacks.
+// Where n stands on a race, "one of those racing writes" is kept.
 fn race_kept(table: &[u8], kept: &[u8], early: &[u8], before: &[u8], count: usize, n: usize) -> bool
     requires { ⌜ Judging (now table) count (now kept) (now early) (now before) × (n < count) ⌝ }
     ensures { λ r. ⌜ Says r (StandsOnRace (eventsOf (now (table .entry))) n → (w : ℕ) × (T (keptBy (now (kept .entry)) w) × EarlierRace (eventsOf (now (table .entry))) w n)) ⌝ }
@@ -68,6 +68,7 @@ fn lacks(table: &[u8], kept: &[u8], early: &[u8], before: &[u8], count: usize, n
     (kept[n] == 1) & !complete
 }
 
+// The least, by the matrices of earlier races and of writes before.
 fn least_lacking_by(table: &[u8], kept: &[u8], early: &[u8], before: &[u8], count: usize) -> First
     requires { ⌜ Judging (now table) count (now kept) (now early) (now before) ⌝ }
     ensures { λ r. ⌜ LeastNumber (Lacking (keptBy (now (kept .entry))) (eventsOf (now (table .entry)))) (numberOf r) ⌝ }
@@ -80,7 +81,7 @@ fn least_lacking_by(table: &[u8], kept: &[u8], early: &[u8], before: &[u8], coun
     First::Nothing
 }
 
-// Which records race, by way of which conflict.
+// Which records race.
 fn races(table: &[u8], hb: &[u8], count: usize, race: &mut [u8])
     requires { ⌜ Counted (now table) count × Given count (Hb (eventsOf (now table))) (now hb) × Square count (now race) ⌝ }
     ensures { λ _. ⌜ Made count count (Race (eventsOf (now (table .entry)))) (now (race .entry)) (now (race .exit)) ⌝ }

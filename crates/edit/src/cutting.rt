@@ -1,5 +1,4 @@
 // A cut: the selected records of a table, written to a lent output.
-ghost use mathlib.Core.Path.{_≡_};
 ghost use Rattle.table.specs.declared.Tested.the-variants.{Sound};
 ghost use Rattle.table.specs.Test.{TestAnswer};
 ghost use Rattle.edit.specs.Columns.{keptBy, Choice, Completed};

@@ -1,8 +1,7 @@
 // The new number of each record: how many records before it are kept.
 ghost use mathlib.Core.Path.{_≡_};
-ghost use Prim.Native.Nat.{_+_, _≤_, _<_};
+ghost use Prim.Native.Nat.{_+_, _<_};
 ghost use lib.Dec.{eqb};
-ghost use lib.ListN.{length};
 ghost use Rattle.model.specs.Cut.{oneMoreIf};
 ghost use Rattle.edit.specs.Columns.{keptBy, NumberRoom, Numbered};
 

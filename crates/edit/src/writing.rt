@@ -1,6 +1,6 @@
 // The kept records written out, under their new numbers.
 ghost use mathlib.Core.Path.{_≡_};
-ghost use Prim.Native.Nat.{_+_, _*_, _≤_, _<_};
+ghost use Prim.Native.Nat.{_+_, _*_, _≤_};
 ghost use lib.ListN.{length};
 ghost use Rattle.record.specs.Form.{part, overwritten};
 ghost use Rattle.edit.specs.Columns.{numberIn, LinkIn, PartLinks, Placing, keptBy, Writing};

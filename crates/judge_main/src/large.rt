@@ -7,6 +7,7 @@ use events::Link;
 use events::Order;
 use events::Record;
 use events::Value;
+use limits::LIMIT;
 
 pub enum Large {
     Chain,
@@ -148,7 +149,7 @@ fn write_large(which: Large, count: u8, out: &mut [u8])
 pub fn judge_large(name: &[u8], which: Large, count: u8)
     requires { ⌜ count ≤ 64 ⌝ }
 {
-    let mut table = [0u8; 1024];
+    let mut table = [0u8; 16 * LIMIT];
     write_large(which, count, &mut table);
     say(name, &table, 16 * (count as usize));
 }

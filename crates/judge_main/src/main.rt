@@ -11,6 +11,7 @@ use crate::say::say_lent;
 use crate::script::judge_changed;
 use crate::script::judge_script;
 use crate::script::write_changed;
+use limits::LIMIT;
 
 fn examples() {
     judge_script(b"E1", b"In0----- ");
@@ -60,9 +61,9 @@ fn orders() {
     write_changed(&mut table, 1, 0);
     say(b"79 bytes", &table, 79);
     say(b"0 bytes", &table, 0);
-    say_lent(b"79 bytes, first of 63", &table, 79, 63, 64);
-    say_lent(b"mark, first of 63", &table, 80, 63, 64);
-    say_lent(b"mark, second of 63", &table, 80, 64, 63);
+    say_lent(b"79 bytes, short first", &table, 79, LIMIT - 1, LIMIT);
+    say_lent(b"mark, short first", &table, 80, LIMIT - 1, LIMIT);
+    say_lent(b"mark, short second", &table, 80, LIMIT, LIMIT - 1);
     say(b"mark", &table, 80);
 }
 

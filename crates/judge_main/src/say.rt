@@ -1,11 +1,13 @@
 // A judging's answer on one line of standard output.
 ghost use Prim.Native.Nat.{_≤_};
 ghost use lib.ListN.{length};
+ghost use Rattle.limits.specs.Limit.{limit};
 use cycle::Loop;
 use judge::Judged;
 use judge::Report;
 use judge::Verdict;
 use libc::STDOUT_FILENO;
+use limits::LIMIT;
 use matrix::search::First;
 use matrix::search::Found;
 use refusals::Refusal;
@@ -116,10 +118,10 @@ fn say_fronts(table: &[u8], first: &mut [u8], a: usize, second: &mut [u8], b: us
 
 // Judges the first `len` bytes of a table with buffers of `a` and `b` bytes.
 pub fn say_lent(name: &[u8], table: &[u8], len: usize, a: usize, b: usize)
-    requires { ⌜ (len ≤ length (now table)) × (a ≤ 64) × (b ≤ 64) ⌝ }
+    requires { ⌜ (len ≤ length (now table)) × (a ≤ limit) × (b ≤ limit) ⌝ }
 {
-    let mut first = [200u8; 64];
-    let mut second = [200u8; 64];
+    let mut first = [200u8; LIMIT];
+    let mut second = [200u8; LIMIT];
     text(name);
     text(b":");
     say_fronts(&table[0..len], &mut first, a, &mut second, b);
@@ -129,5 +131,5 @@ pub fn say_lent(name: &[u8], table: &[u8], len: usize, a: usize, b: usize)
 pub fn say(name: &[u8], table: &[u8], len: usize)
     requires { ⌜ len ≤ length (now table) ⌝ }
 {
-    say_lent(name, table, len, 64, 64);
+    say_lent(name, table, len, LIMIT, LIMIT);
 }

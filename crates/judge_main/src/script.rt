@@ -10,6 +10,7 @@ use events::Link;
 use events::Order;
 use events::Record;
 use events::Value;
+use limits::LIMIT;
 
 fn order_of(c: u8) -> Order {
     match c {
@@ -103,8 +104,8 @@ fn write_script(script: &[u8], count: usize, out: &mut [u8])
 
 pub fn judge_script(name: &[u8], script: &[u8]) {
     let count = script.len() / 9;
-    if count <= 64 {
-        let mut table = [0u8; 1024];
+    if count <= LIMIT {
+        let mut table = [0u8; 16 * LIMIT];
         write_script(script, count, &mut table);
         say(name, &table, 16 * count);
     }

@@ -1,5 +1,5 @@
 -- `appending::answer` meets its contract: what is not in use as it should be is refused with 1.
-use mathlib.Core.Path.{_≡_, refl}
+use mathlib.Core.Path.{refl}
 use native.Mathlib.Omega.{arith}
 use borrow.Author.Needs.{needs}
 use Rattle.edit.specs.Append.{not-in-use}

@@ -1,5 +1,5 @@
 -- `appending::answer_for_new` meets its contract: the test of the new record is its test in the extended table.
-use mathlib.Core.Path.{_≡_, refl, sym, subst}
+use mathlib.Core.Path.{refl}
 use native.Mathlib.Omega.{arith}
 use borrow.Author.Needs.{needs}
 use denote.Ref.{now}

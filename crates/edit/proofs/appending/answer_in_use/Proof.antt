@@ -1,5 +1,4 @@
 -- `appending::answer_in_use` meets its contract.
-use mathlib.Core.Path.{_≡_}
 use borrow.Author.Needs.{needs}
 use Rattle.edit.specs.Append.{bad-record}
 use Rattle.edit.proofs.NewRecord.{sound-use}

@@ -1,7 +1,5 @@
 -- `appending::append` meets its contract: the new record is written only where its count is answered.
-use mathlib.Core.Path.{_≡_, refl}
 use borrow.Author.Needs.{needs}
-use Rattle.edit.specs.Append.{bytesAfter}
 use Rattle.edit.proofs.NewRecord.{count-ready}
 use Rattle.edit.proofs.appending.append.Statement.{statement}
 use Rattle.edit.proofs.appending.append.Tie as tie

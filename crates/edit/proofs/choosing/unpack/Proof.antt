@@ -1,6 +1,6 @@
 -- `choosing::unpack` meets its contract: the first n bits are in the column, and the rest is s halved n times.
 use mathlib.Core.Path.{_≡_}
-use Prim.Native.Nat.{ℕ, _-_, _≤_}
+use Prim.Native.Nat.{_-_, _≤_}
 use native.Mathlib.Omega.{arith}
 use Rattle.edit.specs.Columns.{Unpacked}
 use Rattle.edit.proofs.Bits.{unpacked-none, unpacked-more}

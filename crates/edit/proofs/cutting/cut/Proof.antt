@@ -1,5 +1,5 @@
 -- `cutting::cut` meets its contract.
-use mathlib.Core.Path.{_≡_, refl}
+use mathlib.Core.Path.{refl}
 use borrow.Author.Needs.{needs}
 use Rattle.edit.specs.Cut.{bad-table}
 use Rattle.edit.proofs.cutting.cut.Statement.{statement}

@@ -1,5 +1,5 @@
 -- `cutting::cut_sound` meets its contract: the column says what the selection says, of every number.
-use mathlib.Core.Path.{_≡_, refl}
+use mathlib.Core.Path.{refl}
 use native.Mathlib.Omega.{arith}
 use borrow.Author.Needs.{needs}
 use denote.Ref.{now}

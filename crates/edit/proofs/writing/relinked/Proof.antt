@@ -1,7 +1,5 @@
 -- `writing::relinked` meets its contract.
-use borrow.Author.Needs.{needs}
 use borrow.Author.Tests.{eq-eqb, ne-eqb}
-use native.Mathlib.Omega.{arith}
 use Rattle.edit.proofs.writing.relinked.Statement.{statement}
 use Rattle.edit.proofs.writing.relinked.Tie as tie
 

@@ -1,0 +1,18 @@
+-- `say_report`: what was written has room in what was lent.
+use mathlib.Core.Path.{sym}
+use lib.Seq.{length-take-le}
+use borrow.Author.Needs.{needs}
+use Rattle.lines.proofs.Written.{length-within}
+use Rattle.questions.proofs.ask.say_report.Statement.{statement}
+use Rattle.questions.proofs.ask.say_report.Tie as tie
+
+array-share-prefix-out : tie.Need-array-share-prefix-out
+array-share-prefix-out c = length-within (c .before .before .before .before .write-answer .ensures) (c .before .len .given .1)
+
+slice-aggregate-say : tie.Need-slice-aggregate-say
+slice-aggregate-say c = sym (length-take-le _ _ (length-within (c .before .before .before .before .before .write-answer .ensures) (c .before .before .len .given .1)))
+
+pub say-report-spec : {M : Type 1} → statement M
+say-report-spec =
+    tie.close
+    (tie.spec (search needs) (λ c κs. search needs) (search needs) array-share-prefix-out slice-aggregate-say (λ c κs. search needs) (search needs) (λ c κs. search needs) (search needs) (search needs))

@@ -1,0 +1,38 @@
+// Answers many questions, one after another, for the comparison with the second judge (second/README.md has their form).
+mod ask;
+mod event;
+mod say;
+
+use crate::ask::take_append;
+use crate::ask::take_cut;
+use crate::ask::take_fetch;
+use crate::ask::take_judging;
+
+// The next question, if there is one; whether to go on.
+fn take_next() -> bool {
+    let mut kind = [0u8; 1];
+    if io::read_full(libc::STDIN_FILENO, &mut kind) < 1 {
+        return false;
+    }
+    let k = kind[0];
+    if k == b'J' {
+        return take_judging();
+    }
+    if k == b'C' {
+        return take_cut();
+    }
+    if k == b'A' {
+        return take_append();
+    }
+    if k == b'F' {
+        return take_fetch();
+    }
+    false
+}
+
+fn main() {
+    let mut turns = u64::MAX;
+    while turns > 0 && take_next() {
+        turns -= 1;
+    }
+}

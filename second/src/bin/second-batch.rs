@@ -1,0 +1,18 @@
+//! Reads many questions from standard input and writes their answers to standard output.
+
+use std::io::{self, BufWriter, Read, Write};
+use std::process::exit;
+
+fn main() -> io::Result<()> {
+    let mut bytes = Vec::new();
+    io::stdin().read_to_end(&mut bytes)?;
+    let questions = second::batch::questions(&bytes).unwrap_or_else(|why| {
+        eprintln!("{why}");
+        exit(2)
+    });
+    let mut output = BufWriter::new(io::stdout().lock());
+    for question in questions {
+        output.write_all(question.answer(second::relations::DEPTH).as_bytes())?;
+    }
+    output.flush()
+}

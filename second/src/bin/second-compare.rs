@@ -1,0 +1,24 @@
+//! second-compare BATCH ANSWERS ANSWERS: ends with 1 and prints each difference, or says how many agree.
+
+use second::compare::differences;
+use second::files::{read_answers, read_batch};
+use std::process::exit;
+
+const MOST_PRINTED: usize = 20;
+
+fn main() {
+    let paths: Vec<String> = std::env::args().skip(1).collect();
+    let [batch, one, other] = &paths[..] else {
+        eprintln!("usage: second-compare BATCH ANSWERS ANSWERS");
+        exit(2)
+    };
+    let questions = read_batch(batch);
+    let one = read_answers(one, &questions);
+    let other = read_answers(other, &questions);
+    let found = differences(&questions, &one, &other);
+    for difference in found.iter().take(MOST_PRINTED) {
+        println!("{difference}");
+    }
+    println!("{} agree, {} differ", questions.len() - found.len(), found.len());
+    exit(if found.is_empty() { 0 } else { 1 })
+}

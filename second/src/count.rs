@@ -1,0 +1,126 @@
+//! Counting what a batch and its answers reach, and naming what is missing.
+
+use crate::batch::Question;
+use std::collections::BTreeMap;
+
+pub const FINDINGS: [&str; 6] = ["R", "A1", "A2", "A3", "A4", "W"];
+
+#[derive(Default)]
+pub struct Counts(pub BTreeMap<String, usize>);
+
+impl Counts {
+    pub fn of(questions: &[Question], answers: &[Vec<String>]) -> Counts {
+        let mut counts = Counts::default();
+        for (question, answer) in questions.iter().zip(answers) {
+            counts.add(format!("{} questions", question.operation()));
+            for line in answer {
+                counts.count_line(question, line);
+            }
+            counts.count_findings(answer);
+        }
+        counts
+    }
+
+    fn add(&mut self, what: String) {
+        *self.0.entry(what).or_default() += 1;
+    }
+
+    fn count_line(&mut self, question: &Question, line: &str) {
+        let operation = question.operation();
+        let words: Vec<&str> = line.split(' ').collect();
+        match words[..] {
+            ["refused", number, "at", place] => {
+                self.add(format!("{operation} refused {number}"));
+                let place = place.parse().unwrap_or(usize::MAX);
+                if (2..=8).any(|one| one.to_string() == number) {
+                    self.add(format!("{operation} refused {number} {}", class(question, place)));
+                }
+            }
+            ["events", size] => self.add(format!("size {size}")),
+            ["verdict", verdict] => self.add(format!("verdict {verdict}")),
+            ["A1", "none"] | ["A4", "none"] => {}
+            ["A1", ..] => self.add(format!("A1 length {}", words.len() - 1)),
+            ["A4", ..] => self.add(format!("A4 length {}", words.len() - 1)),
+            ["cut", _] | ["count", _] | ["given"] => self.add(format!("{operation} done")),
+            _ => {}
+        }
+    }
+
+    /// Findings, those that stand alone, and pairs of them.
+    fn count_findings(&mut self, answer: &[String]) {
+        let holds = |name: &&str| {
+            let start = format!("{name} ");
+            answer.iter().any(|line| line.starts_with(&start) && !line.ends_with("none"))
+        };
+        let found: Vec<&str> = FINDINGS.iter().copied().filter(|name| holds(name)).collect();
+        for (index, first) in found.iter().enumerate() {
+            self.add(format!("finding {first}"));
+            for second in &found[index + 1..] {
+                self.add(format!("pair {first} {second}"));
+            }
+        }
+        if let [only] = found[..] {
+            self.add(format!("finding {only} only"));
+        }
+    }
+
+    /// What should have been reached and was not.
+    pub fn missing(&self) -> Vec<String> {
+        required().into_iter().filter(|what| !self.0.contains_key(what)).collect()
+    }
+}
+
+/// Where a faulty record stands among the records tested.
+fn class(question: &Question, place: usize) -> &'static str {
+    let count = match question {
+        Question::Append { in_use, .. } => *in_use as usize,
+        other => other.table().len() / 16,
+    };
+    if place == count {
+        "new"
+    } else if place == 0 {
+        "first"
+    } else if place + 1 == count {
+        "last"
+    } else {
+        "middle"
+    }
+}
+
+fn required() -> Vec<String> {
+    let mut list = required_refusals();
+    list.extend(["cut", "append", "fetch"].map(|operation| format!("{operation} done")));
+    for (index, first) in FINDINGS.iter().enumerate() {
+        list.push(format!("finding {first}"));
+        list.push(format!("finding {first} only"));
+        list.extend(FINDINGS[index + 1..].iter().map(|second| format!("pair {first} {second}")));
+    }
+    let verdicts = ["consistent", "inconsistent", "undefined"];
+    list.extend(verdicts.map(|verdict| format!("verdict {verdict}")));
+    list.extend((2..=30).map(|length| format!("A1 length {length}")));
+    list.extend((1..=30).map(|length| format!("A4 length {length}")));
+    list.extend((1..=64).map(|size| format!("size {size}")));
+    list
+}
+
+fn required_refusals() -> Vec<String> {
+    let mut list: Vec<String> = Vec::new();
+    let numbers: [(&str, Vec<u8>); 4] = [
+        ("judge", (1..=8).collect()),
+        ("cut", (1..=11).collect()),
+        ("append", (1..=8).chain(11..=12).collect()),
+        ("fetch", vec![1, 13]),
+    ];
+    for (operation, reached) in numbers {
+        list.extend(reached.iter().map(|number| format!("{operation} refused {number}")));
+    }
+    for (number, place) in (2..=8).flat_map(|n| ["first", "middle", "last"].map(|p| (n, p))) {
+        // Record 0 with a good Init has no source and no sibling, so 7 and 8 never stand there.
+        if number <= 6 || place != "first" {
+            let operations = ["judge", "cut", "append"];
+            list.extend(operations.map(|name| format!("{name} refused {number} {place}")));
+        }
+    }
+    list.extend((3..=8).map(|number| format!("append refused {number} new")));
+    list
+}

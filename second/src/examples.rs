@@ -1,0 +1,132 @@
+//! The small structures E1 to E10 of document 01, as bytes.
+
+use crate::record::{init, load, load_u, store, Bytes};
+
+const NA: u8 = 0;
+const ACQ: u8 = 1;
+const REL: u8 = 2;
+const SC: u8 = 4;
+const X: u8 = 0;
+const Y: u8 = 1;
+const Z: u8 = 2;
+
+/// An example: its name, what it shows, its bytes.
+pub struct Example {
+    pub name: &'static str,
+    pub shows: &'static str,
+    pub bytes: Vec<u8>,
+}
+
+pub fn examples() -> Vec<Example> {
+    let list: [(&'static str, &'static str, Vec<Bytes>); 10] = [
+        ("E1", "Init alone: consistent", vec![init(0, 255)]),
+        ("E2", "a read on one arm of a branch happens before the other arm: A2 at 2 4 only", e2()),
+        ("E3", "two SC stores, each other's location read old: A4 with 4 5 7 8 only", e3()),
+        ("E4", "E3 with record 8 reading the new value: consistent", e4()),
+        ("E5", "two NA stores of two threads: W at 3 4, undefined", e5()),
+        ("E6", "a read of u below a write that it should have seen: R at 3", e6()),
+        ("E7", "a read of a location that nobody wrote: consistent", e7()),
+        ("E8", "reads that stand on a race, judged by earlier writes only: consistent", e8()),
+        ("E9", "two readers see two stores in two orders: A1 with 5 6 only", e9()),
+        ("E10", "two reads in a row whose sources conflict: A3 at 10 11 only", e10()),
+    ];
+    list.into_iter().map(|(name, shows, records)| Example { name, shows, bytes: records.concat() }).collect()
+}
+
+/// The bytes of one example by its name.
+pub fn example(name: &str) -> Vec<u8> {
+    let found = examples().into_iter().find(|example| example.name == name);
+    found.expect("an example of document 01").bytes
+}
+
+fn e2() -> Vec<Bytes> {
+    vec![
+        init(0, 255),
+        store(REL, 0, 0, X, 0),
+        load(ACQ, 0, 1, 1, X, 0),
+        store(REL, 0, 2, X, 1),
+        load(ACQ, 0, 1, 3, X, 1),
+    ]
+}
+
+fn e3() -> Vec<Bytes> {
+    vec![
+        init(0, 255),
+        store(NA, 0, 0, X, 0),
+        store(NA, 0, 1, Y, 0),
+        init(1, 2),
+        store(SC, 1, 3, X, 1),
+        load(SC, 1, 4, 2, Y, 0),
+        init(2, 2),
+        store(SC, 2, 6, Y, 1),
+        load(SC, 2, 7, 1, X, 0),
+    ]
+}
+
+fn e4() -> Vec<Bytes> {
+    let mut records = e3();
+    records[8] = load(SC, 2, 7, 4, X, 1);
+    records
+}
+
+fn e5() -> Vec<Bytes> {
+    vec![init(0, 255), init(1, 0), init(2, 0), store(NA, 1, 1, X, 1), store(NA, 2, 2, X, 2)]
+}
+
+fn e6() -> Vec<Bytes> {
+    vec![init(0, 255), store(NA, 0, 0, X, 0), load(NA, 0, 1, 1, X, 0), load_u(NA, 0, 1, 255, X)]
+}
+
+fn e7() -> Vec<Bytes> {
+    vec![init(0, 255), load_u(NA, 0, 0, 255, X)]
+}
+
+fn e8() -> Vec<Bytes> {
+    vec![
+        init(0, 255),
+        store(NA, 0, 0, X, 0),
+        store(NA, 0, 1, Y, 0),
+        init(1, 2),
+        init(2, 2),
+        load(NA, 1, 3, 1, X, 0),
+        load(NA, 2, 4, 2, Y, 0),
+        store(NA, 1, 5, Y, 1),
+        load_u(NA, 2, 4, 255, Y),
+        store(NA, 2, 8, X, 1),
+        load_u(NA, 1, 3, 255, X),
+        store(NA, 1, 10, Y, 1),
+    ]
+}
+
+fn e9() -> Vec<Bytes> {
+    vec![
+        init(0, 255),
+        init(1, 0),
+        init(2, 0),
+        init(3, 0),
+        init(4, 0),
+        store(REL, 1, 1, X, 1),
+        store(REL, 2, 2, X, 2),
+        load(ACQ, 3, 3, 5, X, 1),
+        load(ACQ, 3, 7, 6, X, 2),
+        load(ACQ, 4, 4, 6, X, 2),
+        load(ACQ, 4, 9, 5, X, 1),
+    ]
+}
+
+fn e10() -> Vec<Bytes> {
+    vec![
+        init(0, 255),
+        store(NA, 0, 0, Z, 0),
+        init(1, 1),
+        init(2, 1),
+        init(3, 1),
+        store(REL, 1, 2, Z, 1),
+        load(ACQ, 2, 3, 1, Z, 0),
+        load(ACQ, 2, 3, 5, Z, 1),
+        store(REL, 2, 6, X, 1),
+        store(REL, 2, 7, Y, 1),
+        load(ACQ, 3, 4, 8, X, 1),
+        load(ACQ, 3, 10, 9, Y, 1),
+    ]
+}

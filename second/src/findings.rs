@@ -1,0 +1,157 @@
+//! The six findings with their least witnesses, the verdict, and what stands on a race.
+
+use crate::relations::{matrix, Matrix, Relations};
+use crate::table::{Order, Record};
+
+#[derive(Clone, Debug, PartialEq, Eq)]
+pub struct Findings {
+    pub r: Option<usize>,
+    pub a1: Option<Vec<usize>>,
+    pub a2: Option<(usize, usize)>,
+    pub a3: Option<(usize, usize)>,
+    pub a4: Option<Vec<usize>>,
+    pub w: Option<(usize, usize)>,
+}
+
+#[derive(Clone, Copy, Debug, PartialEq, Eq)]
+pub enum Verdict {
+    Consistent,
+    Inconsistent,
+    Undefined,
+}
+
+impl Findings {
+    /// "All six are judged always."
+    pub fn of(records: &[Record], rel: &Relations) -> Findings {
+        let size = records.len();
+        Findings {
+            r: (0..size).find(|&read| records[read].is_read() && !justified(records, rel, read)),
+            a1: least_cycle(&rel.wb0),
+            a2: least_pair(size, |p, q| rel.cf[p][q] && rel.hb[p][q]),
+            a3: least_pair(size, |first, second| match (records[first].source, records[second].source) {
+                (Some(one), Some(other)) => rel.hb[first][second] && rel.cf[one][other],
+                _ => false,
+            }),
+            a4: least_cycle(&sc_steps(records, rel)),
+            w: least_pair(size, |p, q| {
+                p < q && records[p].is_write() && records[q].is_write() && rel.race[p][q]
+            }),
+        }
+    }
+
+    /// "undefined if W holds, else inconsistent if any other does, else consistent"
+    pub fn verdict(&self) -> Verdict {
+        let others = self.r.is_some()
+            || self.a1.is_some()
+            || self.a2.is_some()
+            || self.a3.is_some()
+            || self.a4.is_some();
+        if self.w.is_some() {
+            Verdict::Undefined
+        } else if others {
+            Verdict::Inconsistent
+        } else {
+            Verdict::Consistent
+        }
+    }
+}
+
+/// "no write earlier in the table races with it": those that do.
+fn earlier_racing_writes(records: &[Record], rel: &Relations, read: usize) -> Vec<usize> {
+    (0..read).filter(|&w| records[w].is_write() && rel.race[w][read]).collect()
+}
+
+/// "some write of its location is hb before it"
+fn a_write_is_before(records: &[Record], rel: &Relations, read: usize) -> bool {
+    (0..records.len())
+        .any(|w| records[w].is_write() && records[w].shares_location(&records[read]) && rel.hb[w][read])
+}
+
+fn justified(records: &[Record], rel: &Relations, read: usize) -> bool {
+    let no_race = earlier_racing_writes(records, rel, read).is_empty();
+    match records[read].source {
+        Some(source) => rel.hb[source][read] && no_race,
+        None => !a_write_is_before(records, rel, read) || !no_race,
+    }
+}
+
+/// The racing writes of a read that *stands on a race*; empty for every other record.
+pub fn racing_writes_stood_on(records: &[Record], rel: &Relations, read: usize) -> Vec<usize> {
+    let has_ground =
+        records[read].is_read() && records[read].source.is_none() && a_write_is_before(records, rel, read);
+    if has_ground {
+        earlier_racing_writes(records, rel, read)
+    } else {
+        Vec::new()
+    }
+}
+
+/// "hbsc, wb and fr together, among SC records"
+fn sc_steps(records: &[Record], rel: &Relations) -> Matrix {
+    matrix(records.len(), |a, b| {
+        records[a].order == Order::Sc
+            && records[b].order == Order::Sc
+            && (rel.hbsc[a][b] || rel.wb[a][b] || rel.fr[a][b])
+    })
+}
+
+/// "Pairs are compared by the first number, then the second"
+fn least_pair(size: usize, fits: impl Fn(usize, usize) -> bool) -> Option<(usize, usize)> {
+    for p in 0..size {
+        for q in 0..size {
+            if fits(p, q) {
+                return Some((p, q));
+            }
+        }
+    }
+    None
+}
+
+/// "The witness has fewest records, and of those is the least list, number by number."
+/// A round of the fewest steps never meets a record twice, or a shorter one would exist.
+pub fn least_cycle(step: &Matrix) -> Option<Vec<usize>> {
+    let size = step.len();
+    let distances: Vec<_> = (0..size).map(|target| distances_to(step, target)).collect();
+    for length in 1..=size {
+        for start in 0..size {
+            let back = &distances[start];
+            if (0..size).any(|next| step[start][next] && back[next] == Some(length - 1)) {
+                return Some(least_round(step, back, start, length));
+            }
+        }
+    }
+    None
+}
+
+/// The fewest steps from each record to the target, found breadth first.
+fn distances_to(step: &Matrix, target: usize) -> Vec<Option<usize>> {
+    let mut distance = vec![None; step.len()];
+    distance[target] = Some(0);
+    let mut reached = vec![target];
+    let mut done = 0;
+    while done < reached.len() {
+        let b = reached[done];
+        for a in 0..step.len() {
+            if step[a][b] && distance[a].is_none() {
+                distance[a] = distance[b].map(|steps| steps + 1);
+                reached.push(a);
+            }
+        }
+        done += 1;
+    }
+    distance
+}
+
+/// From the start, always the least next record from which the way back is just long enough.
+fn least_round(step: &Matrix, distance: &[Option<usize>], start: usize, length: usize) -> Vec<usize> {
+    let mut list = vec![start];
+    while list.len() < length {
+        let here = list[list.len() - 1];
+        let left = length - list.len();
+        let next = (0..step.len())
+            .find(|&b| step[here][b] && distance[b] == Some(left))
+            .expect("the way back was found before");
+        list.push(next);
+    }
+    list
+}

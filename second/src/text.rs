@@ -1,0 +1,53 @@
+//! The lines that are written: a report, a refusal, bytes in hex.
+
+use crate::findings::{Findings, Verdict};
+use crate::relations::Relations;
+use crate::table::{read_table, Refusal, RECORD_BYTES};
+
+/// What the program writes for a table; `depth` is that of `Relations::of`.
+pub fn judge(bytes: &[u8], depth: usize) -> String {
+    match read_table(bytes) {
+        Err(refusal) => refusal_line(refusal),
+        Ok(records) => {
+            let relations = Relations::of(&records, depth);
+            report(bytes.len() / RECORD_BYTES, &Findings::of(&records, &relations))
+        }
+    }
+}
+
+/// "A refused table gives one line, as `refused 6 at 3`."
+pub fn refusal_line(refusal: Refusal) -> String {
+    format!("refused {} at {}\n", refusal.number, refusal.place)
+}
+
+fn report(events: usize, findings: &Findings) -> String {
+    let pair = |found: Option<(usize, usize)>| found.map(|(p, q)| vec![p, q]);
+    let mut text = format!("events {events}\n");
+    text += &finding_line("R", findings.r.map(|read| vec![read]));
+    text += &finding_line("A1", findings.a1.clone());
+    text += &finding_line("A2", pair(findings.a2));
+    text += &finding_line("A3", pair(findings.a3));
+    text += &finding_line("A4", findings.a4.clone());
+    text += &finding_line("W", pair(findings.w));
+    let verdict = match findings.verdict() {
+        Verdict::Consistent => "consistent",
+        Verdict::Inconsistent => "inconsistent",
+        Verdict::Undefined => "undefined",
+    };
+    text + &format!("verdict {verdict}\n")
+}
+
+fn finding_line(name: &str, numbers: Option<Vec<usize>>) -> String {
+    match numbers {
+        None => format!("{name} none\n"),
+        Some(list) => {
+            let words: Vec<String> = list.iter().map(|number| number.to_string()).collect();
+            format!("{name} {}\n", words.join(" "))
+        }
+    }
+}
+
+/// Lower-case hex, two digits a byte.
+pub fn hex(bytes: &[u8]) -> String {
+    bytes.iter().map(|byte| format!("{byte:02x}")).collect()
+}

@@ -1,0 +1,103 @@
+//! Cut, append, fetch and the batch, against what document 01 says of them.
+#![cfg(not(feature = "wrong"))]
+
+use second::batch::{questions, split_answers, Question};
+use second::edit::{append, cut, fetch, fetch_refusal};
+use second::examples::{example, examples};
+use second::record::{init, load, store};
+use second::table::{Refusal, NONE};
+
+fn selection(kept: &[u32]) -> u64 {
+    kept.iter().map(|n| 1u64 << n).sum()
+}
+
+fn cut_of(name: &str, kept: &[u32], output: &mut [u8]) -> Result<usize, Refusal> {
+    cut(&example(name), selection(kept), output, usize::MAX)
+}
+
+fn refusal(number: u8, place: usize) -> Refusal {
+    Refusal { number, place }
+}
+
+#[test]
+fn cuts_that_document_01_refuses() {
+    let mut output = [0xa5; 1024];
+    assert_eq!(cut_of("E2", &[0, 1, 3], &mut output), Err(refusal(10, 3)));
+    assert_eq!(cut_of("E8", &[0, 1, 2, 3, 4, 6, 8], &mut output), Err(refusal(10, 8)));
+    assert_eq!(cut_of("E2", &[], &mut output), Err(refusal(9, 0)));
+    assert_eq!(cut_of("E2", &[0, 5], &mut output), Err(refusal(9, 0)));
+    assert_eq!(cut_of("E2", &[0, 1], &mut output[..31]), Err(refusal(11, 0)));
+    assert_eq!(cut_of("E2", &[1], &mut output[..0]), Err(refusal(10, 1)));
+    assert!(output.iter().all(|&byte| byte == 0xa5));
+}
+
+#[test]
+fn a_cut_writes_new_numbers_and_nothing_more() {
+    let mut output = [0xa5; 200];
+    let kept = [0, 1, 2, 3, 4, 5, 7, 8];
+    assert_eq!(cut_of("E8", &kept, &mut output), Ok(8));
+    let table = example("E8");
+    assert_eq!(output[..96], table[..96]);
+    assert_eq!(output[96..112], store(0, 1, 5, 1, 1));
+    assert_eq!(output[112..124], table[128..140]);
+    assert!(output[128..].iter().all(|&byte| byte == 0xa5));
+    let mut whole = [0; 192];
+    assert_eq!(cut(&table, 0xfff, &mut whole, usize::MAX), Ok(12));
+    assert_eq!(whole[..], table[..]);
+}
+
+#[test]
+fn appends_build_e2_from_nothing() {
+    let table = example("E2");
+    let mut buffer = [0xa5; 90];
+    for n in 0..5 {
+        let event: [u8; 16] = table[16 * n..16 * n + 16].try_into().unwrap();
+        assert_eq!(append(&mut buffer, n, &event), Ok(n + 1));
+        assert!(buffer[16 * n + 16..].iter().all(|&byte| byte == 0xa5));
+    }
+    assert_eq!(buffer[..80], table[..]);
+    assert_eq!(append(&mut buffer, 5, &init(1, 0)), Err(refusal(11, 0)));
+    assert_eq!(append(&mut buffer, 6, &init(1, 0)), Err(refusal(1, 0)));
+}
+
+#[test]
+fn appends_that_are_refused() {
+    let mut buffer = [0u8; 48];
+    assert_eq!(append(&mut buffer, 0, &store(0, 0, 0, 0, 1)), Err(refusal(6, 0)));
+    assert_eq!(append(&mut buffer, 1, &init(0, NONE)), Err(refusal(2, 0)));
+    assert_eq!(append(&mut buffer, 0, &init(0, NONE)), Ok(1));
+    assert_eq!(append(&mut buffer, 1, &store(1, 0, 0, 0, 1)), Err(refusal(3, 1)));
+    assert_eq!(append(&mut buffer, 1, &load(0, 0, 0, 255, 0, 1)), Err(refusal(7, 1)));
+    let mut full = init(0, NONE).to_vec();
+    for n in 0..63 {
+        full.extend(store(0, 0, n, 0, 1));
+    }
+    assert_eq!(append(&mut full, 64, &init(1, 0)), Err(refusal(12, 0)));
+    assert_eq!(append(&mut full, 65, &init(1, 0)), Err(refusal(1, 0)));
+}
+
+#[test]
+fn fetch_tests_only_1_and_13() {
+    let table = [7u8; 32];
+    assert_eq!((fetch(&table, 1), fetch_refusal(&table, 1)), (&table[16..], None));
+    assert_eq!((fetch(&table, 2), fetch_refusal(&table, 2)), (&[][..], Some(refusal(13, 2))));
+    assert_eq!(fetch_refusal(&table[..31], 9), Some(refusal(1, 0)));
+    assert_eq!(fetch_refusal(&[], 0), Some(refusal(1, 0)));
+}
+
+#[test]
+fn a_batch_comes_back_as_it_was_written() {
+    let mut list: Vec<Question> =
+        examples().into_iter().map(|e| Question::Judge { table: e.bytes }).collect();
+    list.push(Question::Cut { selection: 7, output_size: 0, table: example("E2") });
+    list.push(Question::Append { in_use: 1, event: init(1, 0), buffer: vec![] });
+    list.push(Question::Fetch { asked: 300, table: example("E2") });
+    let bytes: Vec<u8> = list.iter().flat_map(|question| question.to_bytes()).collect();
+    assert_eq!(questions(&bytes), Ok(list.clone()));
+    let text: String = list.iter().map(|question| question.answer(usize::MAX)).collect();
+    let answers = split_answers(&list, &text).unwrap();
+    assert_eq!(answers[10], ["refused 11 at 0", ""]);
+    assert_eq!(answers[11], ["refused 1 at 0", ""]);
+    assert_eq!(answers[12], ["", "refused 13 at 300"]);
+    assert!(split_answers(&list, &text[..text.len() - 1]).is_err());
+}
