@@ -11,9 +11,9 @@ use Rattle.refusals.specs.declared.Fault.the-variants.{Mark}
 use Rattle.record.specs.declared.Decoded.the-variants.{Bad}
 use Rattle.record.specs.Form.{decidedBy, decode, encode}
 use Rattle.table.specs.declared.Tested.the-variants as tested
-use Rattle.table.specs.Test.{FaultAt, by-bytes, by-6, by-7, by-8, Passes, CheckAnswer, RecordsAnswer}
+use Rattle.table.specs.Test.{FaultAt, by-bytes, by-6, by-7, by-8, Passes, RecordsAnswer}
 use Rattle.table.proofs.Front.{front-count}
-use Rattle.table.proofs.NewRecord.{new-part, new-exact}
+use Rattle.table.proofs.NewRecord.{new-part}
 use Rattle.table.proofs.WellFormed.{records-pass}
 use Rattle.edit.specs.declared.appending.Appended.{Appended}
 use Rattle.edit.specs.declared.appending.Appended.the-variants.{Count}
