@@ -17,10 +17,10 @@ least-one anti (Least.absent f) (Least.least {a = b} q g) = absurd (f b q)
 least-one anti (Least.least {a = a} p f) (Least.absent g) = absurd (g a p)
 least-one anti (Least.least {a = a} p f) (Least.least {a = b} q g) = ap some (anti a b (f b q) (g a p))
 
-number-one : (a b : ℕ) → a ≤ b → b ≤ a → a ≡ b
+pub number-one : (a b : ℕ) → a ≤ b → b ≤ a → a ≡ b
 number-one a b h k = omega arith
 
-pair-one : (p q : Pair) → PairAtMost p q → PairAtMost q p → p ≡ q
+pub pair-one : (p q : Pair) → PairAtMost p q → PairAtMost q p → p ≡ q
 pair-one p q (by-first h) (by-first k) = absurd (omega arith)
 pair-one p q (by-first h) (by-second e k) = absurd (omega arith)
 pair-one p q (by-second e h) (by-first k) = absurd (omega arith)
@@ -40,7 +40,7 @@ list-one (a ∷ l) (b ∷ m) e p q = go (list-one l m (omega arith)) p q
     go ih (inr x) (inl y) = absurd (omega arith)
     go ih (inr x) (inr y) = ap₂ (λ (h : ℕ) (t : List ℕ). h ∷ t) (x .0) (ih (x .1) (y .1))
 
-cycle-one : (c d : List ℕ) → CycleAtMost c d → CycleAtMost d c → c ≡ d
+pub cycle-one : (c d : List ℕ) → CycleAtMost c d → CycleAtMost d c → c ≡ d
 cycle-one c d (fewer h) (fewer k) = absurd (omega arith)
 cycle-one c d (fewer h) (as-many e k) = absurd (omega arith)
 cycle-one c d (as-many e h) (fewer k) = absurd (omega arith)

@@ -3,5 +3,6 @@ pub mod Says
 pub mod Steps
 pub mod Closure
 pub mod Least
+pub mod Witness
 pub mod Walks
 pub mod Renumbered

@@ -6,6 +6,9 @@ use mathlib.Core.List.{List}
 use Prim.Native.Nat.{ℕ, _<_}
 use Rattle.laws.specs.Steps.{IsCycle}
 use Rattle.laws.specs.Least.{Pair, LeastNumber, LeastPair, LeastCycle}
+use Rattle.laws.specs.Witness.{Witness, RecordWith, PairWith, CycleWith}
+use Rattle.findings.specs.declared.Finding.{Finding}
+use Rattle.findings.specs.declared.Finding.the-variants as finding
 use Rattle.model.specs.Table.{Table, Source, Read, Write}
 use Rattle.model.specs.Relations.{Conflict, Hb, Race, Wb0, ScStep, Justified}
 
@@ -44,7 +47,20 @@ module _ (t : Table) where
     pub write-q : Write t q
     pub race : Race t p q
 
+  -- what shows each finding, as a record, a pair of records or a cycle
+  abbrev pub Shows : Finding → Witness → Type 0
+  Shows finding.R = RecordWith ShowsR
+  Shows finding.A1 = CycleWith ShowsA1
+  Shows finding.A2 = PairWith ShowsA2
+  Shows finding.A3 = PairWith ShowsA3
+  Shows finding.A4 = CycleWith ShowsA4
+  Shows finding.W = PairWith ShowsW
+
   -- a finding holds where something shows it
+  pub record Holds (f : Finding) : Type 0 where
+    pub witness : Witness
+    pub shows : Shows f witness
+
   abbrev pub HoldsR : Type 0
   HoldsR = (r : ℕ) × ShowsR r
 

@@ -1,6 +1,6 @@
 // Why an operation is refused: document 01's refusals 1 to 13, each with its number and its place.
 ghost use mathlib.Core.Path.{_≡_};
-ghost use Rattle.refusals.specs.Numbers.{faultNumber, numberOf, placeOf};
+ghost use Rattle.refusals.specs.Numbers.{faultNumber, numberOf, placeOf, told};
 
 // What is wrong with a record: refusals 2 to 8.
 pub enum Fault {
@@ -22,6 +22,12 @@ pub enum Refusal {
     Room,
     Full,
     Past(usize),
+}
+
+// What is told of a refusal: its number and its place.
+pub struct Told {
+    pub number: usize,
+    pub place: usize,
 }
 
 impl Fault {
@@ -66,6 +72,44 @@ impl Refusal {
             Refusal::Room => 0,
             Refusal::Full => 0,
             Refusal::Past(n) => n,
+        }
+    }
+    // The number and the place of each.
+    pub fn told(self) -> Told
+        ensures { λ r. ⌜ r ≡ told self ⌝ }
+    {
+        match self {
+            Refusal::Length => Told {
+                number: 1,
+                place: 0,
+            },
+            Refusal::Record(f, n) => {
+                let number = f.number();
+                Told {
+                    number: number,
+                    place: n,
+                }
+            }
+            Refusal::Selection => Told {
+                number: 9,
+                place: 0,
+            },
+            Refusal::Incomplete(n) => Told {
+                number: 10,
+                place: n,
+            },
+            Refusal::Room => Told {
+                number: 11,
+                place: 0,
+            },
+            Refusal::Full => Told {
+                number: 12,
+                place: 0,
+            },
+            Refusal::Past(n) => Told {
+                number: 13,
+                place: n,
+            },
         }
     }
 }

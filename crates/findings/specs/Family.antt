@@ -1,0 +1,52 @@
+-- The findings as a family: each in the order of the report, its name, and what was found of it.
+use mathlib.Core.Bool.{Bool, true, false}
+use mathlib.Core.List.{List, [], _∷_}
+use Prim.Native.Nat.{ℕ}
+use lib.ListN.{getD}
+use Rattle.findings.specs.declared.Finding.{Finding}
+use Rattle.findings.specs.declared.Finding.the-variants.{R, A1, A2, A3, A4, W}
+use Rattle.findings.specs.declared.Found.{Found}
+use Rattle.findings.specs.declared.Found.the-variants as found
+use Rattle.findings.specs.declared.Findings.{Findings}
+
+-- every finding, in the order of the report
+abbrev pub inOrder : List Finding
+inOrder = R ∷ A1 ∷ A2 ∷ A3 ∷ A4 ∷ W ∷ []
+
+-- the place of each there
+abbrev pub placeOf : Finding → ℕ
+placeOf R = 0
+placeOf A1 = 1
+placeOf A2 = 2
+placeOf A3 = 3
+placeOf A4 = 4
+placeOf W = 5
+
+-- the finding at a place
+abbrev pub findingAt : ℕ → Finding
+findingAt place = getD inOrder place W
+
+-- its name in ASCII: "R", "A1", "A2", "A3", "A4", "W"
+abbrev pub nameOf : Finding → List ℕ
+nameOf R = 82 ∷ []
+nameOf A1 = 65 ∷ 49 ∷ []
+nameOf A2 = 65 ∷ 50 ∷ []
+nameOf A3 = 65 ∷ 51 ∷ []
+nameOf A4 = 65 ∷ 52 ∷ []
+nameOf W = 87 ∷ []
+
+-- what was found of it
+abbrev pub foundOf : Findings → Finding → Found
+foundOf x R = x .r
+foundOf x A1 = x .«a1»
+foundOf x A2 = x .«a2»
+foundOf x A3 = x .«a3»
+foundOf x A4 = x .«a4»
+foundOf x W = x .w
+
+-- whether there is a witness
+abbrev pub there : Found → Bool
+there found.Nothing = false
+there (found.Record n) = true
+there (found.Pair p q) = true
+there (found.Cycle len) = true
