@@ -26,8 +26,24 @@ pub says-dec : {b : Bool} {P : Type 0} → Says b P → Dec P
 says-dec {b = true} s = yes (s .to tt)
 says-dec {b = false} s = no (λ p. s .from p)
 
+-- what is not false is true, where it can be told
+pub by-dec : {P : Type 0} → Dec P → ¬ ¬ P → P
+by-dec (yes p) n = p
+by-dec (no p) n = absurd (n p)
+
 pub says-T : (b : Bool) → Says b (T b)
 says-T b = record { to = λ x. x; from = λ x. x }
+
+-- a test that is another
+pub says-is : {b c : Bool} → b ≡ c → Says b (T c)
+says-is {c = c} e = subst (λ (x : Bool). Says x (T c)) (sym e) (says-T c)
+
+-- two tests that tell one fact are one
+pub says-one : {a b : Bool} {P : Type 0} → Says a P → Says b P → a ≡ b
+says-one {a = true} {b = true} s r = refl
+says-one {a = true} {b = false} s r = absurd (r .from (s .to tt))
+says-one {a = false} {b = true} s r = absurd (s .from (r .to tt))
+says-one {a = false} {b = false} s r = refl
 
 pub says-eq : (a b : ℕ) → Says (eqb a b) (a ≡ b)
 says-eq a b = record { to = eqb→eq a b; from = λ e. subst (λ x. T (eqb a x)) e (eqb-refl a) }

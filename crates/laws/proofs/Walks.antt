@@ -140,12 +140,13 @@ module _ (R : Rel) where
   walk-plus a [] b w = one w
   walk-plus a (x ∷ xs) b w = plus-trans (one (w .0)) (walk-plus x xs b (w .1))
 
+  -- a walk starts where there are numbers
+  pub walk-starts : {n : ℕ} → Within n R → (a : ℕ) (xs : List ℕ) (b : ℕ) → Walk R a xs b → a < n
+  walk-starts w a [] b v = w .left v
+  walk-starts w a (x ∷ xs) b v = w .left (v .0)
+
   -- a cycle has no more records than there are
   pub cycle-fits : (n : ℕ) → Within n R → (c : List ℕ) → IsCycle R c → length c ≤ n
   cycle-fits n w [] c = absurd c
   cycle-fits n w (a ∷ xs) c =
-      at-most n (a ∷ xs) (c .0) (starts xs (c .1), walk-below n (λ x y r. w .right r) a xs a (c .1))
-    where
-      starts : (xs : List ℕ) → Walk R a xs a → a < n
-      starts [] v = w .left v
-      starts (x ∷ xs) v = w .left (v .0)
+      at-most n (a ∷ xs) (c .0) (walk-starts w a xs a (c .1), walk-below n (λ x y r. w .right r) a xs a (c .1))

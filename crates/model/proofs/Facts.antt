@@ -13,16 +13,11 @@ use Rattle.events.specs.declared.Event.{Event}
 use Rattle.events.specs.declared.Event.the-variants.{Init, Load, Store, Update}
 use Rattle.events.specs.declared.Record.{Record}
 use Rattle.events.specs.Words.{isRead, isWrite, isSC, orderOf, sameLocation, locationOf, oneLocation}
-use Rattle.laws.proofs.Says.{says-dec, says-T, says-eq}
+use Rattle.laws.proofs.Says.{says-dec, says-T, says-eq, by-dec}
 use Rattle.model.specs.Table.{Table, inert, Inside, thread, IsInit, Read, Parent, Source, NoSource, Write, SC, OneLocation}
 use Rattle.model.specs.WellFormed.{ReadsValue, WritesValue, Root, no-root, no-parent, parent-not-earlier, other-thread, thread-stood, EarlierWrite, no-earlier-write, other-value, known-from-u, known-from-nothing, TwoReads, twin, WellFormed}
 use Rattle.model.proofs.Fields.{absent-to}
 use Rattle.model.proofs.Refusals.{says-root, says-earlier-write, says-two-reads}
-
--- what is not false is true, where it can be told
-by-dec : {P : Type 0} → Dec P → ¬ ¬ P → P
-by-dec (yes p) n = p
-by-dec (no p) n = absurd (n p)
 
 -- ---- locations
 
