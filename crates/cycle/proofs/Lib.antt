@@ -5,4 +5,3 @@ pub mod Walking
 pub mod Starts
 pub mod Writing
 pub mod Ranking
-pub mod Answers

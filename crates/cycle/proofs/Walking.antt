@@ -11,7 +11,7 @@ use lib.Seq.{getD-set-same, getD-set-other}
 use borrow.Author.Count.{below-more}
 use Rattle.laws.specs.Steps.{Rel, Walk}
 use Rattle.laws.proofs.Steps.{Within}
-use Rattle.laws.proofs.Walks.{Below, Meets, split, joined, walk-below}
+use Rattle.laws.proofs.Walks.{Below, Meets, split, joined, walk-below, walk-starts}
 use Rattle.matrix.specs.Matrix.{Cell}
 use Rattle.matrix.proofs.Parts.{place-before}
 use Rattle.cycle.specs.Distances.{stepsAt, Reaches, Shortest, Relaxes, FirstSteps, PassDone}
@@ -27,10 +27,6 @@ pub record Complete (R : Rel) (n k : ℕ) (d : List ℕ) : Type 0 where
   pub short : (a b : ℕ) (xs : List ℕ) → Walk R a xs b → Below k xs → stepsAt d n a b ≤ length xs + 1
 
 module _ {R : Rel} {n : ℕ} (on : Within n R) where
-  pub starts : (a : ℕ) (xs : List ℕ) (b : ℕ) → Walk R a xs b → a < n
-  starts a [] b w = on .left w
-  starts a (x ∷ xs) b w = on .left (w .0)
-
   ends : (a : ℕ) (xs : List ℕ) (b : ℕ) → Walk R a xs b → b < n
   ends a [] b w = on .right w
   ends a (x ∷ xs) b w = ends x xs b (w .1)
@@ -43,7 +39,7 @@ module _ {R : Rel} {n : ℕ} (on : Within n R) where
       by a b xs walk (inr m) =
           omega (
             arith,
-            p .rows a b (starts a xs b walk) (ends a xs b walk),
+            p .rows a b (walk-starts R on a xs b walk) (ends a xs b walk),
             c .short a k (m .first) (m .to) (m .to-below),
             c .short k b (m .second) (m .from) (m .from-below),
             m .short,

@@ -12,11 +12,10 @@ use Rattle.laws.specs.Steps.{Rel, Walk, IsCycle}
 use Rattle.laws.specs.Least.{Least, LeastCycle}
 use Rattle.laws.specs.Tails.{LeastTail}
 use Rattle.laws.proofs.Steps.{Within}
-use Rattle.laws.proofs.Walks.{at-most, different, walk-below, last-step, chosen, least-cycle, cycle-fits}
+use Rattle.laws.proofs.Walks.{at-most, different, walk-below, last-step, chosen, least-closed-walk, walk-starts, cycle-fits}
 use Rattle.matrix.specs.Matrix.{Cell}
 use Rattle.matrix.proofs.Cells.{cell-within}
 use Rattle.cycle.specs.Distances.{stepsAt, Reaches, Shortest, StartOf, NextOf, Wrote}
-use Rattle.cycle.proofs.Walking.{starts}
 
 -- a is the number of place i - 1, p is chosen before it, and what is least from a makes the whole least
 pub record Writing (R : Rel) (s len : ℕ) (before out : List ℕ) (a i : ℕ) : Type 0 where
@@ -102,7 +101,7 @@ module _ {m d : List ℕ} {n : ℕ} (sh : Shortest (Cell n m) n d) where
   module _ {s : ℕ} (f : StartOf n d s) where
     -- no closed walk is shorter than the start's
     few : s < n → (a : ℕ) (xs : List ℕ) → Walk (Cell n m) a xs a → stepsAt d n s s ≤ length xs + 1
-    few hs a xs w = omega (arith, f .few hs a (starts within a xs a w), sh .complete a a xs w)
+    few hs a xs w = omega (arith, f .few hs a (walk-starts (Cell n m) within a xs a w), sh .complete a a xs w)
 
     pub start-some : s < n → 0 < stepsAt d n s s
     start-some hs = omega (arith, sh .sound s s hs hs (f .some hs) .long)
@@ -115,7 +114,7 @@ module _ {m d : List ℕ} {n : ℕ} (sh : Shortest (Cell n m) n d) where
         omega (arith, z .long, at-most n (s ∷ z .by) apart (hs, walk-below (Cell n m) n (λ a b r. r .row) s (z .by) s (z .walk)))
 
     pub found : {l : List ℕ} → s < n → LeastTail (Cell n m) s s (stepsAt d n s s) l → LeastCycle (Cell n m) (some (s ∷ l))
-    found hs t = least-cycle (Cell n m) t (few hs) (λ a xs w e. first a xs w e (decLt a s))
+    found hs t = least-closed-walk (Cell n m) t (few hs) (λ a xs w e. first a xs w e (decLt a s))
       where
         first : (a : ℕ) (xs : List ℕ) → Walk (Cell n m) a xs a → length xs + 1 ≡ stepsAt d n s s → Dec (a < s) → s ≤ a
         first a xs w e (yes l) = absurd (omega (arith, f .first hs a l, sh .complete a a xs w))
@@ -130,6 +129,6 @@ module _ {m d : List ℕ} {n : ℕ} (sh : Shortest (Cell n m) n d) where
             omega (
               arith,
               cycle-fits (Cell n m) n within (a ∷ xs) c,
-              f .none (omega (arith, f .within)) a (starts within a xs a (c .1)),
+              f .none (omega (arith, f .within)) a (walk-starts (Cell n m) within a xs a (c .1)),
               sh .complete a a xs (c .1),
             )

@@ -1,4 +1,3 @@
--- The answer of the search for a least cycle, and what its parts leave.
-pub mod Answer
+-- What the parts of the search for a least cycle leave.
 pub mod Distances
 pub mod Ranks

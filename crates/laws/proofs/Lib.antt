@@ -4,5 +4,6 @@ pub mod Steps
 pub mod Closure
 pub mod Least
 pub mod Witness
+pub mod Passed
 pub mod Walks
 pub mod Renumbered

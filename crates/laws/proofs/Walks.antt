@@ -115,10 +115,10 @@ module _ (R : Rel) where
           go (no ne) = inl (omega (arith, first y m (w .0) (w .1) (omega arith)))
 
   -- the least closed walk from the least record of a closed walk of the fewest steps is the least cycle
-  pub least-cycle :
+  pub least-closed-walk :
       {s k : ℕ} {l : List ℕ} → LeastTail R s s k l → ((a : ℕ) (m : List ℕ) → Walk R a m a → k ≤ length m + 1)
       → ((a : ℕ) (m : List ℕ) → Walk R a m a → length m + 1 ≡ k → s ≤ a) → LeastCycle R (some (s ∷ l))
-  least-cycle {s} {k} {l} t few first =
+  least-closed-walk {s} {k} {l} t few first =
       Least.least {a = s ∷ l} (different (length l) (λ c m w. omega (arith, few c m w, t .long)) s l s (t .walk) (omega arith), t .walk) at-most-each
     where
       by-list : (a : ℕ) (m : List ℕ) → Walk R a m a → length m + 1 ≡ k → Dec (s ≡ a) → (s < a) ⊎ ((s ≡ a) × ListAtMost l m)

@@ -4,7 +4,7 @@ use mathlib.Core.Logic.{_⊎_, inl, inr, ⊎-elim}
 use mathlib.Core.Bool.{Bool, true, false}
 use Prim.Native.Nat.{ℕ}
 use native.Mathlib.Omega.{arith}
-use lib.Bits.{bitAnd, bitOr}
+use lib.Bits.{bitOr}
 use Rattle.laws.specs.Says.{Says}
 use Rattle.matrix.specs.Matrix.{Bit, Bit.on, Bit.off, bitOf}
 
@@ -23,26 +23,15 @@ bit-or (on e p) (off h q) = on (ap₂ bitOr e h) (inl p)
 bit-or (off e p) (on h q) = on (ap₂ bitOr e h) (inr q)
 bit-or (off e p) (off h q) = off (ap₂ bitOr e h) (⊎-elim p q)
 
--- the two bytes met
-pub bit-and : {P Q : Type 0} {x y : ℕ} → Bit P x → Bit Q y → Bit (P × Q) (bitAnd x y)
-bit-and (on e p) (on h q) = on (ap₂ bitAnd e h) (p, q)
-bit-and (on e p) (off h q) = off (ap₂ bitAnd e h) (λ z. q (z .1))
-bit-and (off e p) (on h q) = off (ap₂ bitAnd e h) (λ z. p (z .0))
-bit-and (off e p) (off h q) = off (ap₂ bitAnd e h) (λ z. p (z .0))
-
 -- the byte for a test's answer
 pub bit-says : {r : Bool} {P : Type 0} → Says r P → Bit P (bitOf r)
 bit-says {r = true} s = on refl (s .to tt)
 bit-says {r = false} s = off refl (λ p. s .from p)
 
--- what a byte that is 1, and one that is not, says
+-- what a byte that is 1 says
 pub bit-yes : {P : Type 0} {x : ℕ} → Bit P x → x ≡ 1 → P
 bit-yes (on e p) h = p
 bit-yes (off e n) h = absurd (omega arith)
-
-pub bit-no : {P : Type 0} {x : ℕ} → Bit P x → ¬ (x ≡ 1) → ¬ P
-bit-no (on e p) h q = h e
-bit-no (off e n) h q = n q
 
 pub bit-is : {P : Type 0} {x : ℕ} → Bit P x → P → x ≡ 1
 bit-is (on e p) q = e

@@ -58,9 +58,6 @@ says-cell r {b = b} h l = says-row (r .row b l) h l
 pub to-cell : {n : ℕ} {R : ℕ → ℕ → Type 0} {m : List ℕ} → Within n R → Holds n R m → {a b : ℕ} → R a b → Cell n m a b
 to-cell w r x = cell-of r (w .left x) (w .right x) x
 
-pub cell-iff : {n : ℕ} {R : ℕ → ℕ → Type 0} {m : List ℕ} → Within n R → Holds n R m → {a b : ℕ} → Cell n m a b ↔ R a b
-cell-iff w r = (of-cell r, to-cell w r)
-
 -- what holds a relation is made of bits
 pub row-cells : {n b : ℕ} {S : ℕ → Type 0} {m : List ℕ} → b < n → Row n n S m b → Row n n (λ a. Cell n m a b) m b
 row-cells l r = record { cell = λ a h. bit-iff (row-of r h l) (of-row r) (r .cell a h) }
@@ -82,24 +79,7 @@ pub made-iff :
     → Made n h R m m′ → Made n h S m m′
 made-iff f g p = record { rest = p .rest; rows = rows-iff f g (p .rows) }
 
--- matrices that hold R and S, joined and met
-module _ {n : ℕ} {R S : ℕ → ℕ → Type 0} {m x m′ : List ℕ} (r : Holds n R m) (s : Holds n S x) where
-  pub either-holds : Made n n (λ a b. Cell n m a b ⊎ Cell n x a b) m m′ → Holds n (λ a b. R a b ⊎ S a b) m′
-  either-holds p = rows-iff (λ a b _ _. ⊎-map (of-cell r) (of-cell s)) (λ a b h l. ⊎-map (cell-of r h l) (cell-of s h l)) (p .rows)
-
-  pub both-holds : Made n n (λ a b. Cell n m a b × Cell n x a b) m m′ → Holds n (λ a b. R a b × S a b) m′
-  both-holds p = rows-iff (λ a b _ _ z. (of-cell r (z .0), of-cell s (z .1))) (λ a b h l z. (cell-of r h l (z .0), cell-of s h l (z .1))) (p .rows)
-
--- one result only
-pub made-one : (n : ℕ) {R : ℕ → ℕ → Type 0} {m m₁ m₂ : List ℕ} → Made n n R m m₁ → Made n n R m m₂ → m₁ ≡ m₂
-made-one n {R} {m} {m₁} {m₂} p q = ext-getD 0 m₁ m₂ (p .rest .size ∙ sym (q .rest .size)) (λ k _. by k (decLt k (n * n)))
-  where
-    inside : (k : ℕ) → 0 < n → k < n * n → getD m₁ k 0 ≡ getD m₂ k 0
-    inside k z l =
-        let lb : k / n < n = div-lt-iff-lt-mul z .1 l in
-        let la : k % n < n = mod-lt k z in
-        subst (λ (x : ℕ). getD m₁ x 0 ≡ getD m₂ x 0) (div-add-mod' k n) (bit-one (p .rows .row (k / n) lb .cell (k % n) la) (q .rows .row (k / n) lb .cell (k % n) la))
-
-    by : (k : ℕ) → Dec (k < n * n) → getD m₁ k 0 ≡ getD m₂ k 0
-    by k (yes l) = inside k (pos-of-ne-zero (λ e. not-suc-le-zero (subst (λ (x : ℕ). k < x) (ap (λ (x : ℕ). x * n) e ∙ zero-mul n) l))) l
-    by k (no l) = p .rest .past k (omega arith) ∙ sym (q .rest .past k (omega arith))
+-- matrices that hold R and S, joined
+pub either-holds :
+    {n : ℕ} {R S : ℕ → ℕ → Type 0} {m x m′ : List ℕ} → Holds n R m → Holds n S x → Made n n (λ a b. Cell n m a b ⊎ Cell n x a b) m m′ → Holds n (λ a b. R a b ⊎ S a b) m′
+either-holds r s p = rows-iff (λ a b _ _. ⊎-map (of-cell r) (of-cell s)) (λ a b h l. ⊎-map (cell-of r h l) (cell-of s h l)) (p .rows)

@@ -5,7 +5,7 @@ pub mod Rows
 pub mod Cells
 pub mod Phases
 pub mod Stages
-pub mod Passed
 pub mod Gains
 pub mod Products
 pub mod Owners
+pub mod Unique

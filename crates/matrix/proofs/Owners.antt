@@ -10,7 +10,7 @@ use lib.ListN.{length, getD, set}
 use lib.Seq.{getD-set-same, getD-set-other}
 use Rattle.laws.proofs.Steps.{Within}
 use Rattle.matrix.specs.Matrix.{Bit, Row, Holds, Cell, Bits, Joined, MadeRow, Made}
-use Rattle.matrix.specs.Relations.{Owned, Gathered, Scattered}
+use Rattle.matrix.specs.Derived.{Owned, Gathered, Scattered}
 use Rattle.matrix.proofs.Bytes.{bit-iff, bit-at, bit-or}
 use Rattle.matrix.proofs.Parts.{row-before, outside-none, outside-wider, outside-trans, outside-set}
 use Rattle.matrix.proofs.Rows.{row-kept, made-row-iff}
@@ -98,16 +98,3 @@ pub scattered-more :
 scattered-more owner {i = i} l r p =
     let here = p .todo i (omega arith) l in
     phase-more l (made-row-iff (λ a. ⊎-map (of-row here) (λ z. z)) (λ a. ⊎-map (λ c. row-of here (c .col) l c) (λ z. z)) r) p
-
-owned-to : {owner : List ℕ} {P Q : ℕ → Type 0} {b : ℕ} → ((v : ℕ) → P v → Q v) → Owned owner P b → Owned owner Q b
-owned-to f z = record { of = z .of; owned = z .owned; has = f (z .of) (z .has) }
-
--- matrices that hold R and S: R, and S handed on to owners
-module _ (owner : List ℕ) {n : ℕ} {R S : ℕ → ℕ → Type 0} {x m m′ : List ℕ} (w : Within n S) (r : Holds n R m) (s : Holds n S x) where
-  pub gathered-holds : Made n n (λ a b. Cell n m a b ⊎ Gathered owner (Cell n x) a b) m m′ → Holds n (λ a b. R a b ⊎ Gathered owner S a b) m′
-  gathered-holds p =
-      rows-iff (λ a b _ _. ⊎-map (of-cell r) (owned-to (λ v. of-cell s))) (λ a b h l. ⊎-map (cell-of r h l) (owned-to (λ v. to-cell w s))) (p .rows)
-
-  pub scattered-holds : Made n n (WithOwners n owner x m) m m′ → Holds n (λ a b. R a b ⊎ Scattered owner S a b) m′
-  scattered-holds p =
-      rows-iff (λ a b _ _. ⊎-map (of-cell r) (owned-to (λ v. of-cell s))) (λ a b h l. ⊎-map (cell-of r h l) (owned-to (λ v. to-cell w s))) (p .rows)

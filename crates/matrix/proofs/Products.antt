@@ -4,7 +4,7 @@ use mathlib.Core.Logic.{_⊎_, ⊎-elim}
 use Prim.Native.Nat.{ℕ, _+_}
 use Rattle.laws.proofs.Steps.{Within}
 use Rattle.matrix.specs.Matrix.{Row, Holds, Cell, Bits, Joined, MadeRow, Made}
-use Rattle.matrix.specs.Relations.{Composed}
+use Rattle.matrix.specs.Derived.{Composed}
 use Rattle.matrix.proofs.Parts.{outside-none}
 use Rattle.matrix.proofs.Rows.{row-iff, made-row-iff, made-row-trans}
 use Rattle.matrix.proofs.Cells.{rows-iff, of-cell, cell-of}

@@ -1,4 +1,3 @@
 -- What byte matrices hold, and what the functions on them promise.
 pub mod Matrix
-pub mod Found
-pub mod Relations
+pub mod Derived

@@ -3,7 +3,7 @@ use crate::row::join_row_of;
 ghost use mathlib.Core.Logic.{_⊎_};
 ghost use Prim.Native.Nat.{_<_};
 ghost use Rattle.matrix.specs.Matrix.{Cell, MadeRow, Made};
-ghost use Rattle.matrix.specs.Relations.{Owners, Gathered, Scattered};
+ghost use Rattle.matrix.specs.Derived.{Owners, Gathered, Scattered};
 
 // What leads to v leads to v's owner too.
 pub fn gather(owner: &[u8], x: &[u8], out: &mut [u8], n: usize)

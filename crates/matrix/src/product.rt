@@ -4,7 +4,7 @@ use crate::row::has;
 use crate::row::join_row_of;
 ghost use Prim.Native.Nat.{_<_};
 ghost use Rattle.matrix.specs.Matrix.{Square, Cell, IsMatrix, MadeRow, Made};
-ghost use Rattle.matrix.specs.Relations.{Composed};
+ghost use Rattle.matrix.specs.Derived.{Composed};
 
 // Row b takes in the rows of x that row b of y names.
 fn compose_row(x: &[u8], y: &[u8], out: &mut [u8], n: usize, b: usize)

@@ -1,7 +1,6 @@
-// Whole matrices emptied, copied, joined and met.
+// Whole matrices emptied, copied and joined.
 use crate::row::clear_row;
 use crate::row::join_row_of;
-ghost use Prim.Native.Nat.{_*_};
 ghost use mathlib.Core.Logic.{_⊎_};
 ghost use Rattle.matrix.specs.Matrix.{Square, Cell, IsMatrix, Made};
 
@@ -33,16 +32,5 @@ pub fn join(x: &[u8], out: &mut [u8], n: usize)
 {
     for b in 0..n {
         join_row_of(out, n, b, x, b);
-    }
-}
-
-// Out keeps only what x relates too.
-pub fn meet(x: &[u8], out: &mut [u8], n: usize)
-    requires { ⌜ IsMatrix n (now x) × IsMatrix n (now out) ⌝ }
-    ensures { λ _. ⌜ Made n n (λ a b. Cell n (now (out .entry)) a b × Cell n (now (x .entry)) a b) (now (out .entry)) (now (out .exit)) ⌝ }
-{
-    let size = n * n;
-    for k in 0..size {
-        out[k] = out[k] & x[k];
     }
 }

@@ -2,13 +2,13 @@
 use mathlib.Core.Path.{refl, sym}
 use native.Mathlib.Omega.{arith}
 use borrow.Author.Needs.{needs}
-use Rattle.cycle.specs.Answer.{Answer.found, Answer.absent}
+use Rattle.findings.proofs.Meant.{found-cycle, found-no-cycle}
 use Rattle.cycle.proofs.Writing as writing
 use Rattle.cycle.proofs.least_cycle_in.Statement.{statement}
 use Rattle.cycle.proofs.least_cycle_in.Tie as tie
 
 returns : tie.Need-returns
-returns c = absent (c .before .no-cycle .ensures (c .if1 .taken)) refl
+returns c = found-no-cycle (c .before .no-cycle .ensures (c .if1 .taken)) refl
 
 write-cycle-requires : tie.Need-write-cycle-requires
 write-cycle-requires c κs =
@@ -35,10 +35,10 @@ returns-2 c =
     let sh = c .before .before .before .before .before .before .before .before .before .before .before .before .all-steps .ensures in
     let len = c .before .before .before .before .before .steps in
     let w = c .before .before .write-cycle .ensures in
-    found {len = len .result} (writing.found sh (s .ensures) h (rw (len .ensures .0) at (w .tail))) (omega (arith, w .tail .long)) (w .holds)
+    found-cycle {len = len .result} (writing.found sh (s .ensures) h (rw (len .ensures .0) at (w .tail))) (omega (arith, w .tail .long)) (w .holds)
 
 returns-3 : tie.Need-returns-3
-returns-3 c = absent (writing.nothing (c .before .before .before .before .before .all-steps .ensures) (c .before .least-start .ensures) (omega arith) (c .if2 .left)) refl
+returns-3 c = found-no-cycle (writing.nothing (c .before .before .before .before .before .all-steps .ensures) (c .before .least-start .ensures) (omega arith) (c .if2 .left)) refl
 
 pub least-cycle-in-spec : {M : Type 1} → statement M
 least-cycle-in-spec =

@@ -3,7 +3,7 @@ use mathlib.Core.Path.{_≡_}
 use Prim.Native.Nat.{_-_, _≤_}
 use native.Mathlib.Omega.{arith}
 use Rattle.matrix.specs.Matrix.{Cell, Made}
-use Rattle.matrix.specs.Relations.{Composed}
+use Rattle.matrix.specs.Derived.{Composed}
 use Rattle.matrix.proofs.Rows.{made-none, made-more}
 use Rattle.matrix.proofs.product.compose.Statement.{statement}
 use Rattle.matrix.proofs.product.compose.Tie as tie
