@@ -6,7 +6,8 @@ use native.Mathlib.Omega.{arith}
 use lib.ListN.{length, getD}
 use Rattle.findings.specs.declared.Finding.{Finding}
 use Rattle.findings.specs.declared.Finding.the-variants.{R, A1, A2, A3, A4, W}
-use Rattle.findings.specs.Family.{inOrder, placeOf, findingAt}
+use Rattle.findings.specs.declared.Findings.{Findings}
+use Rattle.findings.specs.Family.{inOrder, placeOf, findingAt, foundOf}
 
 -- what a list says of each finding, in order, it says of the one asked for
 pub at-place : {A : Type 0} (g : Finding → A) (d : A) (f : Finding) → getD (map g inOrder) (placeOf f) d ≡ g f
@@ -27,3 +28,7 @@ place-below W = omega arith
 
 pub finding-at : (f : Finding) → findingAt (placeOf f) ≡ f
 finding-at = at-place (λ (f : Finding). f) W
+
+-- what was found is known by what was found of each
+pub findings-one : {x y : Findings} → ((f : Finding) → foundOf x f ≡ foundOf y f) → x ≡ y
+findings-one same = λ i. record { r = same R i; «a1» = same A1 i; «a2» = same A2 i; «a3» = same A3 i; «a4» = same A4 i; w = same W i }

@@ -1,88 +1,72 @@
 -- Any two results that document 01 allows for one table and the same two buffers are equal.
 use mathlib.Core.Path.{_≡_, refl, sym, ap, subst, _∙_}
 use mathlib.Core.List.{List}
-use mathlib.Core.Option.{Option, none, some}
 use Prim.Native.Nat.{ℕ}
 use native.Mathlib.Omega.{arith}
+use Rattle.findings.specs.declared.Finding.{Finding}
+use Rattle.findings.specs.declared.Finding.the-variants.{A1, A4}
+use Rattle.findings.specs.Family.{foundOf}
+use Rattle.findings.specs.Meant.{Means, lent}
+use Rattle.findings.proofs.Family.{findings-one}
+use Rattle.findings.proofs.Meant.{means-one}
 use Rattle.refusals.specs.declared.Refusal.{Refusal}
-use Rattle.laws.specs.Least.{Pair}
-use Rattle.model.specs.Findings.{undefined, inconsistent, consistent}
+use Rattle.refusals.proofs.Known.{told-one}
 use Rattle.model.specs.Findings as model
 use Rattle.model.proofs.Unique.{one-report}
-use Rattle.matrix.specs.Found.{numberOf, pairOf}
-use Rattle.matrix.specs.declared.search.First.{First}
-use Rattle.matrix.specs.declared.search.First.the-variants as first
-use Rattle.matrix.specs.declared.search.Found.{Found}
-use Rattle.matrix.specs.declared.search.Found.the-variants as found
-use Rattle.cycle.specs.declared.Loop.{Loop}
-use Rattle.cycle.specs.declared.Loop.the-variants.{Cycle}
 use Rattle.table.specs.declared.Tested.the-variants as tested
 use Rattle.table.specs.Events.{eventsOf}
-use Rattle.table.specs.Test.{TestAnswer}
-use Rattle.table.proofs.Unique.{refusal-one, test-one}
-use Rattle.table.proofs.WellFormed.{test-pass}
-use Rattle.judge.specs.declared.Verdict.{Verdict}
-use Rattle.judge.specs.declared.Verdict.the-variants.{Undefined, Inconsistent, Consistent}
+use Rattle.table.specs.Test.{RecordsAnswer}
+use Rattle.table.proofs.Unique.{records-one}
 use Rattle.judge.specs.declared.Report.{Report}
 use Rattle.judge.specs.declared.Judged.{Judged}
 use Rattle.judge.specs.declared.Judged.the-variants.{Refused, Reported}
-use Rattle.judge.specs.Answer.{verdictOf, CycleIs, there, nowhere, Lent, Tells, Unchanged, JudgeAnswer, wrong-length, no-room, bad-record, judged}
+use Rattle.judge.specs.Answer.{Witnesses, noWitness, Tells, Decides, wrong-length, no-room, bad-record, judged, JudgeAnswer}
 
--- ---- what a part of the report means says which it is
+-- one answer, with the same witnesses
+record SameAnswer (x y : Judged) (v w : Witnesses) : Type 0 where
+  answer : x ≡ y
+  witness : v ≡ w
 
-by-meaning : {A B : Type 0} (meaning : A → B) (from : B → A) → ((x : A) → from (meaning x) ≡ x) → (x y : A) → meaning x ≡ meaning y → x ≡ y
-by-meaning meaning from back x y e = sym (back x) ∙ (ap from e ∙ back y)
+refused-one : {r s : Refusal} → r ≡ s → SameAnswer (Refused r) (Refused s) noWitness noWitness
+refused-one e = record { answer = ap Refused e; witness = refl }
 
-firstFrom : Option ℕ → First
-firstFrom none = first.Nothing
-firstFrom (some k) = first.At k
+tells-one : {b : List ℕ} {v w : Witnesses} {x y : Report} → Tells b v x → Tells b w y → SameAnswer (Reported x) (Reported y) v w
+tells-one {b} {v} {w} {x} {y} p q =
+    let same = one-report (eventsOf b) _ _ (p .right) (q .right) in
+    let witness : v ≡ w = ap (λ (r : model.Report). r .witness) same in
+    let verdict : x .verdict ≡ y .verdict = ap (λ (r : model.Report). r .verdict) same in
+    let events : x .events ≡ y .events = p .events ∙ sym (q .events) in
+    let findings : x .findings ≡ y .findings =
+    findings-one (λ f. means-one (p .means f) (subst (λ (u : Witnesses). Means (foundOf (y .findings) f) (u f)) (sym witness) (q .means f))) in
+    record { answer = λ i. Reported (record { events = events i; findings = findings i; verdict = verdict i }); witness = witness }
 
-first-back : (x : First) → firstFrom (numberOf x) ≡ x
-unfolding firstFrom
-first-back (first.At k) = refl
-first-back first.Nothing = refl
+-- what the test of the records says
+one-fault : {b : List ℕ} {r s : Refusal} → RecordsAnswer b (tested.Refused r) → RecordsAnswer b (tested.Refused s) → r ≡ s
+one-fault x y = let e = records-one x y in cc
 
-foundFrom : Option Pair → Found
-foundFrom none = found.Nothing
-foundFrom (some p) = found.Pair (p .first) (p .second)
-
-found-back : (x : Found) → foundFrom (pairOf x) ≡ x
-unfolding foundFrom
-found-back (found.Pair p q) = refl
-found-back found.Nothing = refl
-
-verdictFrom : model.Verdict → Verdict
-verdictFrom undefined = Undefined
-verdictFrom inconsistent = Inconsistent
-verdictFrom consistent = Consistent
-
-verdict-back : (v : Verdict) → verdictFrom (verdictOf v) ≡ v
-unfolding verdictFrom
-verdict-back Undefined = refl
-verdict-back Inconsistent = refl
-verdict-back Consistent = refl
-
-cycle-one : {x y : Loop} {l : Option (List ℕ)} → CycleIs x l → CycleIs y l → x ≡ y
-cycle-one (there e) (there f) = ap Cycle (e ∙ sym f)
-cycle-one nowhere nowhere = refl
-
-lent-one : (l : Option (List ℕ)) (before after after′ : List ℕ) → Lent l before after → Lent l before after′ → after ≡ after′
-lent-one none before after after′ p q = p ∙ sym q
-lent-one (some l) before after after′ p q = p ∙ sym q
-
--- ---- what the test of the table says
-
-one-test : {b : List ℕ} {r s : Refusal} → TestAnswer b (tested.Refused r) → TestAnswer b (tested.Refused s) → r ≡ s
-one-test x y =
-    let e = test-one x y in
-    cc
-
-never-both : {b : List ℕ} {r : Refusal} {n : ℕ} {A : Type 0} → TestAnswer b (tested.Refused r) → TestAnswer b (tested.Sound n) → A
+never-both : {b : List ℕ} {r : Refusal} {n : ℕ} {A : Type 0} → RecordsAnswer b (tested.Refused r) → RecordsAnswer b (tested.Sound n) → A
 never-both x y =
-    let e = test-one x y in
+    let e = records-one x y in
     absurd (let z : _≡_ {A = ℕ} 0 1 = cc in omega arith)
 
--- ---- the whole
+decides-one :
+    {b before₁ before₂ : List ℕ} {x y : Judged} {v w : Witnesses} → Decides b before₁ before₂ x v → Decides b before₁ before₂ y w → SameAnswer x y v w
+decides-one (wrong-length _ e) (wrong-length _ f) = refused-one (told-one (e ∙ sym f))
+decides-one (wrong-length n _) (no-room k _ _) = absurd (n k)
+decides-one (wrong-length n _) (bad-record k _ _) = absurd (n k)
+decides-one (wrong-length n _) (judged k _ _ _) = absurd (n k)
+decides-one (no-room k _ _) (wrong-length n _) = absurd (n k)
+decides-one (no-room _ _ e) (no-room _ _ f) = refused-one (told-one (e ∙ sym f))
+decides-one (no-room _ n _) (bad-record _ k _) = absurd (n k)
+decides-one (no-room _ n _) (judged _ k _ _) = absurd (n k)
+decides-one (bad-record k _ _) (wrong-length n _) = absurd (n k)
+decides-one (bad-record _ k _) (no-room _ n _) = absurd (n k)
+decides-one (bad-record _ _ x) (bad-record _ _ y) = refused-one (one-fault x y)
+decides-one (bad-record _ _ x) (judged _ _ y _) = never-both x y
+decides-one (judged k _ _ _) (wrong-length n _) = absurd (n k)
+decides-one (judged _ k _ _) (no-room _ n _) = absurd (n k)
+decides-one (judged _ _ y _) (bad-record _ _ x) = never-both x y
+decides-one (judged _ _ _ p) (judged _ _ _ q) = tells-one p q
 
 -- one result, and the same bytes in both buffers
 pub record Same (x y : Judged) (after₁ after₁′ after₂ after₂′ : List ℕ) : Type 0 where
@@ -90,46 +74,11 @@ pub record Same (x y : Judged) (after₁ after₁′ after₂ after₂′ : List
   pub first : after₁ ≡ after₁′
   pub second : after₂ ≡ after₂′
 
-module _ {before₁ before₂ after₁ after₂ after₁′ after₂′ : List ℕ} where
-  refused-one :
-      {r s : Refusal} → r ≡ s → Unchanged before₁ after₁ before₂ after₂ → Unchanged before₁ after₁′ before₂ after₂′ → Same (Refused r) (Refused s) after₁ after₁′ after₂ after₂′
-  refused-one e u v =
-      record { result = ap Refused e; first = u .first ∙ sym (v .first); second = u .second ∙ sym (v .second) }
-
-  tells-one :
-      {b : List ℕ} {x y : Report} → Tells b before₁ after₁ before₂ after₂ x → Tells b before₁ after₁′ before₂ after₂′ y → Same (Reported x) (Reported y) after₁ after₁′ after₂ after₂′
-  tells-one {b} {x} {y} p q =
-      let same = one-report (eventsOf b) (p .report) (q .report) (p .right) (q .right) in
-      let events = p .events ∙ sym (q .events) in
-      let R = by-meaning numberOf firstFrom first-back (x .r) (y .r) (p .R ∙ (ap (λ (z : model.Report). z .R) same ∙ sym (q .R))) in
-      let A1 = cycle-one (p .A1) (subst (λ (z : model.Report). CycleIs (y .«a1») (z .A1)) (sym same) (q .A1)) in
-      let A2 = by-meaning pairOf foundFrom found-back (x .«a2») (y .«a2») (p .A2 ∙ (ap (λ (z : model.Report). z .A2) same ∙ sym (q .A2))) in
-      let A3 = by-meaning pairOf foundFrom found-back (x .«a3») (y .«a3») (p .A3 ∙ (ap (λ (z : model.Report). z .A3) same ∙ sym (q .A3))) in
-      let A4 = cycle-one (p .A4) (subst (λ (z : model.Report). CycleIs (y .«a4») (z .A4)) (sym same) (q .A4)) in
-      let W = by-meaning pairOf foundFrom found-back (x .w) (y .w) (p .W ∙ (ap (λ (z : model.Report). z .W) same ∙ sym (q .W))) in
-      let verdict = by-meaning verdictOf verdictFrom verdict-back (x .verdict) (y .verdict) (p .verdict ∙ (ap (λ (z : model.Report). z .verdict) same ∙ sym (q .verdict))) in
-      record {
-        result = λ i. Reported (record { events = events i; r = R i; «a1» = A1 i; «a2» = A2 i; «a3» = A3 i; «a4» = A4 i; w = W i; verdict = verdict i });
-        first = lent-one (p .report .A1) before₁ after₁ after₁′ (p .first) (subst (λ (z : model.Report). Lent (z .A1) before₁ after₁′) (sym same) (q .first));
-        second = lent-one (p .report .A4) before₂ after₂ after₂′ (p .second) (subst (λ (z : model.Report). Lent (z .A4) before₂ after₂′) (sym same) (q .second));
-      }
-
-  -- "any two results it allows are equal"
-  pub judge-one :
-      (b : List ℕ) {x y : Judged} → JudgeAnswer b before₁ after₁ before₂ after₂ x → JudgeAnswer b before₁ after₁′ before₂ after₂′ y → Same x y after₁ after₁′ after₂ after₂′
-  judge-one b (wrong-length {r = r} _ k p u) (wrong-length {r = s} _ l q v) = refused-one (refusal-one r s (k ∙ sym l) (p ∙ sym q)) u v
-  judge-one b (wrong-length wrong _ _ _) (no-room right _ _ _ _) = absurd (wrong right)
-  judge-one b (wrong-length wrong _ _ _) (bad-record right _ _ _) = absurd (wrong right)
-  judge-one b (wrong-length wrong _ _ _) (judged {n = n} _ y _) = absurd (wrong (test-pass b n y .0))
-  judge-one b (no-room right _ _ _ _) (wrong-length wrong _ _ _) = absurd (wrong right)
-  judge-one b (no-room {r = r} _ _ k p u) (no-room {r = s} _ _ l q v) = refused-one (refusal-one r s (k ∙ sym l) (p ∙ sym q)) u v
-  judge-one b (no-room _ cramped _ _ _) (bad-record _ roomy _ _) = absurd (cramped roomy)
-  judge-one b (no-room _ cramped _ _ _) (judged roomy _ _) = absurd (cramped roomy)
-  judge-one b (bad-record right _ _ _) (wrong-length wrong _ _ _) = absurd (wrong right)
-  judge-one b (bad-record _ roomy _ _) (no-room _ cramped _ _ _) = absurd (cramped roomy)
-  judge-one b (bad-record _ _ x u) (bad-record _ _ y v) = refused-one (one-test x y) u v
-  judge-one b (bad-record _ _ x _) (judged _ y _) = never-both x y
-  judge-one b (judged {n = n} _ x _) (wrong-length wrong _ _ _) = absurd (wrong (test-pass b n x .0))
-  judge-one b (judged roomy _ _) (no-room _ cramped _ _ _) = absurd (cramped roomy)
-  judge-one b (judged _ x _) (bad-record _ _ y _) = never-both y x
-  judge-one b (judged _ _ p) (judged _ _ q) = tells-one p q
+pub judge-one :
+    {b before₁ after₁ after₁′ before₂ after₂ after₂′ : List ℕ} {x y : Judged} → JudgeAnswer b before₁ after₁ before₂ after₂ x → JudgeAnswer b before₁ after₁′ before₂ after₂′ y → Same x y after₁ after₁′ after₂ after₂′
+judge-one {before₁ = before₁} {before₂ = before₂} p q =
+    let same = decides-one (p .decided) (q .decided) in record {
+      result = same .answer;
+      first = p .first ∙ (ap (λ (w : Witnesses). lent (w A1) before₁) (same .witness) ∙ sym (q .first));
+      second = p .second ∙ (ap (λ (w : Witnesses). lent (w A4) before₂) (same .witness) ∙ sym (q .second));
+    }

@@ -1,58 +1,65 @@
 -- What the parts of the judge ask of each other, and promise.
-use mathlib.Core.Bool.{Bool, true, false, _||_}
+use mathlib.Core.Path.{_≡_}
+use mathlib.Core.Bool.{Bool, true, false}
 use mathlib.Core.List.{List}
 use Prim.Native.Nat.{ℕ, _≤_}
 use lib.ListN.{length}
-use Rattle.laws.specs.Least.{LeastNumber, LeastPair}
+use Rattle.laws.specs.Says.{anyBelow}
+use Rattle.laws.specs.Witness.{a-pair, LeastWitness}
+use Rattle.findings.specs.declared.Finding.{Finding}
+use Rattle.findings.specs.declared.Finding.the-variants.{A1, A4}
+use Rattle.findings.specs.declared.Findings.{Findings}
+use Rattle.findings.specs.declared.Verdict.{Verdict}
+use Rattle.findings.specs.declared.Verdict.the-variants.{Undefined, Inconsistent, Consistent}
+use Rattle.findings.specs.Family.{inOrder, findingAt, foundOf, there}
+use Rattle.findings.specs.Meant.{Means, lent}
 use Rattle.model.specs.Table.{Table}
-use Rattle.model.specs.Relations.{Hb, Wb0, ScStep}
-use Rattle.model.specs.Findings.{ShowsR, ShowsA2, ShowsA3, ShowsW, Verdict, found, verdictBy}
+use Rattle.model.specs.Relations.{Conflict, Hb, Race, Wb0, ScStep}
+use Rattle.model.specs.Findings.{Shows}
 use Rattle.table.specs.Events.{eventsOf}
-use Rattle.matrix.specs.declared.search.First.{First}
-use Rattle.matrix.specs.declared.search.Found.{Found}
-use Rattle.matrix.specs.Found.{numberOf, pairOf}
-use Rattle.cycle.specs.declared.Loop.{Loop}
-use Rattle.cycle.specs.declared.Loop.the-variants.{Cycle, Nothing}
-use Rattle.cycle.specs.Answer.{Answer}
-use Rattle.relations.specs.declared.stored.Stored.{Stored}
-use Rattle.relations.specs.Asked.{Counted, Given}
-use Rattle.relations.specs.Stored.{Inputs}
-use Rattle.judge.specs.declared.findings.Shown.{Shown}
-use Rattle.judge.specs.declared.findings.Cycles.{Cycles}
+use Rattle.facts.specs.Sound.{Counted}
+use Rattle.relations.specs.Given.{Given}
+use Rattle.judge.specs.declared.Report.{Report}
+use Rattle.judge.specs.Answer.{Witnesses, Tells}
 
--- a table, and the matrices that a relation is told from
-pub record Searching (which : Stored) (bytes : List ℕ) (n : ℕ) (x y : List ℕ) : Type 0 where
-  pub table : Counted bytes n
-  pub inputs : Inputs which (eventsOf bytes) n x y y
+-- a sound table of n records, and the relations that reads and pairs are judged by
+pub record Related (b : List ℕ) (n : ℕ) (cf hb race : List ℕ) : Type 0 where
+  pub table : Counted b n
+  pub by-conflict : Given n (Conflict (eventsOf b)) cf
+  pub by-hb : Given n (Hb (eventsOf b)) hb
+  pub by-race : Given n (Race (eventsOf b)) race
 
--- a table and its hb
-pub record Ordered (bytes : List ℕ) (n : ℕ) (hb : List ℕ) : Type 0 where
-  pub table : Counted bytes n
-  pub by-hb : Given n (Hb (eventsOf bytes)) hb
+-- the relations that cycles are looked for in, and room for two
+pub record Lending (b : List ℕ) (n : ℕ) (wb0 sc first second : List ℕ) : Type 0 where
+  pub by-wb0 : Given n (Wb0 (eventsOf b)) wb0
+  pub by-steps : Given n (ScStep (eventsOf b)) sc
+  pub room-first : n ≤ length first
+  pub room-second : n ≤ length second
 
--- and room for a cycle
-pub record Lending (bytes : List ℕ) (n : ℕ) (hb out : List ℕ) : Type 0 where
-  pub order : Ordered bytes n hb
-  pub room : n ≤ length out
+-- the pair p, q shows the finding
+abbrev pub PairShows : Table → Finding → ℕ → ℕ → Type 0
+PairShows t f p q = Shows t f (a-pair (record { first = p; second = q }))
 
--- the witnesses that are one record or two
-pub record ShownIn (t : Table) (x : Shown) : Type 0 where
-  pub R : LeastNumber (ShowsR t) (numberOf (x .r))
-  pub A2 : LeastPair (ShowsA2 t) (pairOf (x .«a2»))
-  pub A3 : LeastPair (ShowsA3 t) (pairOf (x .«a3»))
-  pub W : LeastPair (ShowsW t) (pairOf (x .w))
+-- x is what was found of each finding of t, with the cycles in the two buffers
+pub record FoundAll (t : Table) (before₁ after₁ before₂ after₂ : List ℕ) (x : Findings) : Type 0 where
+  pub witness : Witnesses
+  pub least : (f : Finding) → LeastWitness (Shows t f) (witness f)
+  pub means : (f : Finding) → Means (foundOf x f) (witness f)
+  pub first : after₁ ≡ lent (witness A1) before₁
+  pub second : after₂ ≡ lent (witness A4) before₂
 
--- the witnesses that are cycles, in their buffers
-pub record CyclesIn (t : Table) (before₁ after₁ before₂ after₂ : List ℕ) (x : Cycles) : Type 0 where
-  pub A1 : Answer (Wb0 t) before₁ after₁ (x .«a1»)
-  pub A4 : Answer (ScStep t) before₂ after₂ (x .«a4»)
+-- whether any finding has a witness
+unfoldable pub anyFound : Findings → Bool
+anyFound x = anyBelow (λ place. there (foundOf x (findingAt place))) (length inOrder)
 
--- whether there is one
-abbrev pub isCycle : Loop → Bool
-isCycle (Cycle len) = true
-isCycle Nothing = false
+abbrev pub verdictBy : Bool → Bool → Verdict
+verdictBy true any = Undefined
+verdictBy false true = Inconsistent
+verdictBy false false = Consistent
 
--- "undefined if W holds, else inconsistent if any other does, else consistent"
-abbrev pub verdictFor : First → Loop → Found → Found → Loop → Found → Verdict
-verdictFor r a1 a2 a3 a4 w =
-    verdictBy (found (pairOf w)) (found (numberOf r) || isCycle a1 || found (pairOf a2) || found (pairOf a3) || isCycle a4)
+-- x is the report of the table b, with the cycles in the two buffers
+pub record ReportOf (b before₁ after₁ before₂ after₂ : List ℕ) (x : Report) : Type 0 where
+  pub witness : Witnesses
+  pub tells : Tells b witness x
+  pub first : after₁ ≡ lent (witness A1) before₁
+  pub second : after₂ ≡ lent (witness A4) before₂

@@ -38,7 +38,9 @@ returns-2 c =
     found-cycle {len = len .result} (writing.found sh (s .ensures) h (rw (len .ensures .0) at (w .tail))) (omega (arith, w .tail .long)) (w .holds)
 
 returns-3 : tie.Need-returns-3
-returns-3 c = found-no-cycle (writing.nothing (c .before .before .before .before .before .all-steps .ensures) (c .before .least-start .ensures) (omega arith) (c .if2 .left)) refl
+returns-3 c =
+    let all-steps = c .before .before .before .before .before .all-steps in
+    found-no-cycle (writing.nothing (all-steps .ensures) (c .before .least-start .ensures) (omega arith) (c .if2 .left)) refl
 
 pub least-cycle-in-spec : {M : Type 1} → statement M
 least-cycle-in-spec =

@@ -25,11 +25,14 @@ loop-again c =
     (omega arith, p .kept .0 ∙ l .inv .1, relaxes-sound (omega arith) (p .ensures .chain) (l .inv .2), pass-complete (cell-within _ _) (omega arith) (p .ensures) (l .inv .3))
 
 same-length : tie.Need-same-length Inv-loop μ-loop
-same-length c = c .before .loop .inv .1 ∙ c .before .before .before .before .first-steps .kept .1 .1 .0
+same-length c =
+    let first-steps = c .before .before .before .before .first-steps in
+    c .before .loop .inv .1 ∙ first-steps .kept .1 .1 .0
 
 returns : tie.Need-returns Inv-loop μ-loop
 returns c =
-    let e : c .before .loop .k ≡ c .before .before .before .before .before .before .before .before .args .n = omega arith in
+    let entry = c .before .before .before .before .before .before .before .before in
+    let e : c .before .loop .k ≡ entry .args .n = omega arith in
     all-shortest (cell-within _ _) (c .before .loop .inv .2) (rw e at (c .before .loop .inv .3))
 
 pub all-steps-spec : {M : Type 1} → statement M

@@ -20,19 +20,21 @@ loop-holds c = (omega arith, refl, row-none, sym (c .steps .ensures .0))
 
 loop-again : tie.Need-loop-again Inv-loop μ-loop
 loop-again c =
+    let steps2 = c .before .before .before .before .steps2 in
     let l = c .before .before .before .before .before .before .before .loop .inv in
     let s = c .before .before .before .before .before .before .before .before .before .before in
     let low = c .before .before .lower in
     let far = c .before .before .before .before .before .before .before .before .steps .result in
     let m =
     row-more (omega arith) (λ p. omega (arith, s .slice-known .given p)) (omega arith) (omega arith) (omega arith)
-    (ap (λ (x : ℕ). far + x) (c .before .before .before .before .steps2 .ensures .0)) (l .2) (l .3) (low .ensures)
+    (ap (λ (x : ℕ). far + x) (steps2 .ensures .0)) (l .2) (l .3) (low .ensures)
     in
     (omega arith, low .kept .0 ∙ l .1, m .0, m .1)
 
 returns : tie.Need-returns Inv-loop μ-loop
 returns c =
-    let e : c .before .loop .a ≡ c .before .before .before .before .before .args .n = omega arith in
+    let entry = c .before .before .before .before .before in
+    let e : c .before .loop .a ≡ entry .args .n = omega arith in
     rw e at (c .before .loop .inv .2)
 
 pub relax-row-spec : {M : Type 1} → statement M

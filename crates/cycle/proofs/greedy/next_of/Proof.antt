@@ -17,11 +17,13 @@ abbrev μ-loop : tie.MeasureT-loop
 μ-loop m dist n a t k x₀ x = n - x
 
 returns : tie.Need-returns Inv-loop μ-loop
-returns c = record {
-  within = omega arith;
-  hit = λ h. (said (c .before .before .before .has .ensures) (c .before .before .if1 .taken), sym (c .before .steps .ensures .0) ∙ c .if2 .taken);
-  before = c .before .before .before .before .before .loop .inv .1;
-}
+returns c =
+    let turn = c .before .before .before .before .before .loop in
+    record {
+      within = omega arith;
+      hit = λ h. (said (c .before .before .before .has .ensures) (c .before .before .if1 .taken), sym (c .before .steps .ensures .0) ∙ c .if2 .taken);
+      before = turn .inv .1;
+    }
 
 loop-again : tie.Need-loop-again Inv-loop μ-loop
 loop-again c =
@@ -33,7 +35,8 @@ loop-again c =
 
 returns-2 : tie.Need-returns-2 Inv-loop μ-loop
 returns-2 c =
-    let e : c .before .loop .x ≡ c .before .before .before .before .args .n = omega arith in
+    let entry = c .before .before .before .before in
+    let e : c .before .loop .x ≡ entry .args .n = omega arith in
     record { within = omega arith; hit = λ h. absurd (omega arith); before = rw e at (c .before .loop .inv .1) }
 
 pub next-of-spec : {M : Type 1} → statement M

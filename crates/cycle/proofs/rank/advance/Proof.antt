@@ -19,7 +19,9 @@ loop-holds : tie.Need-loop-holds Inv-loop μ-loop
 loop-holds c = (omega arith, omega arith, λ w h g. absurd (omega arith))
 
 returns : tie.Need-returns Inv-loop μ-loop
-returns c = record { low = omega arith; high = omega arith; seen = λ w h g. c .before .before .before .before .before .loop .inv .2 w g h }
+returns c =
+    let turn = c .before .before .before .before .before .loop in
+    record { low = omega arith; high = omega arith; seen = λ w h g. turn .inv .2 w g h }
 
 loop-again : tie.Need-loop-again Inv-loop μ-loop
 loop-again c =

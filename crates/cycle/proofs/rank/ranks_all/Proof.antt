@@ -18,7 +18,8 @@ abbrev μ-loop : tie.MeasureT-loop
 
 visit-all-requires : tie.Need-visit-all-requires Inv-loop μ-loop
 visit-all-requires c κs =
-    record { few = omega arith; room = omega arith; room-next = omega arith; room-rank = omega arith; ranks = c .before .before .before .before .loop .inv .3 }
+    let turn = c .before .before .before .before .loop in
+    record { few = omega arith; room = omega arith; room-next = omega arith; room-rank = omega arith; ranks = turn .inv .3 }
 
 loop-again : tie.Need-loop-again Inv-loop μ-loop
 loop-again c =

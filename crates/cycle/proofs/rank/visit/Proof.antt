@@ -23,10 +23,11 @@ advance-requires c κs =
 
 returns-4 : tie.Need-returns-4
 returns-4 c =
+    let if1 = c .before .before .before .before .before .before .if1 in
     let a = entry (c .before) .args in
     let u = c .before .advance .result in
     let g : getD (set (a .next .now) (a .v) u) (a .v) 0 ≡ u = getD-set-same (a .next .now) (a .v) u 0 (omega arith) in
-    ranked (moved-on (c .before)) (omega arith) (omega arith) (c .before .before .before .before .before .before .if1 .left) (omega (arith, g, c .before .advance .ensures .high))
+    ranked (moved-on (c .before)) (omega arith) (omega arith) (if1 .left) (omega (arith, g, c .before .advance .ensures .high))
 
 pub visit-spec : {M : Type 1} → statement M
 visit-spec =

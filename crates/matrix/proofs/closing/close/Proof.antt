@@ -20,8 +20,9 @@ close-through-requires c κs = (record { room = omega arith; bits = bits-of (c .
 
 loop-again : tie.Need-loop-again Inv-loop μ-loop
 loop-again c =
+    let turn = c .before .before .before .before .before .loop in
     let t = c .before .before .before .before .loop-test .taken in
-    (stage-more t (c .before .before .before .before .before .loop .inv .0) (c .before .before .close-through .ensures), omega arith)
+    (stage-more t (turn .inv .0) (c .before .before .close-through .ensures), omega arith)
 
 same-length : tie.Need-same-length Inv-loop μ-loop
 same-length c = c .before .loop .inv .0 .rest .size

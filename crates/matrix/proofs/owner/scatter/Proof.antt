@@ -25,16 +25,18 @@ scatter-row-requires c κs =
 
 loop-again : tie.Need-loop-again Inv-loop μ-loop
 loop-again c =
+    let loop-test = c .before .before .before .before .loop-test in
     let s = c .before .before .before .before .before .before .before .before .before in
     let i = c .before .before .before .before .before .loop .inv .1 in
-    (omega arith, scattered-more (s .args .owner .now) (c .before .before .before .before .loop-test .taken) (c .before .before .scatter-row .ensures) i)
+    (omega arith, scattered-more (s .args .owner .now) (loop-test .taken) (c .before .before .scatter-row .ensures) i)
 
 same-length : tie.Need-same-length Inv-loop μ-loop
 same-length c = c .before .loop .inv .1 .rest .size
 
 returns : tie.Need-returns Inv-loop μ-loop
 returns c =
-    let e : c .before .loop .b ≡ c .before .before .before .before .before .args .n = omega arith in
+    let entry = c .before .before .before .before .before in
+    let e : c .before .loop .b ≡ entry .args .n = omega arith in
     phase-all (rw e at (c .before .loop .inv .1))
 
 pub scatter-spec : {M : Type 1} → statement M

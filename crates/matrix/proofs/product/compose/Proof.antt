@@ -18,14 +18,17 @@ compose-row-requires : tie.Need-compose-row-requires Inv-loop μ-loop
 compose-row-requires c κs = let s = c .before .before .before .before .before .before in (s .pre .0, s .pre .1, omega arith, omega arith)
 
 loop-again : tie.Need-loop-again Inv-loop μ-loop
-loop-again c = (omega arith, made-more (c .before .before .before .before .before .loop .inv .1) (c .before .before .compose-row .ensures))
+loop-again c =
+    let turn = c .before .before .before .before .before .loop in
+    (omega arith, made-more (turn .inv .1) (c .before .before .compose-row .ensures))
 
 same-length : tie.Need-same-length Inv-loop μ-loop
 same-length c = c .before .loop .inv .1 .rest .size
 
 returns : tie.Need-returns Inv-loop μ-loop
 returns c =
-    let e : c .before .loop .b ≡ c .before .before .before .before .before .args .n = omega arith in
+    let entry = c .before .before .before .before .before in
+    let e : c .before .loop .b ≡ entry .args .n = omega arith in
     rw e at (c .before .loop .inv .1)
 
 pub compose-spec : {M : Type 1} → statement M

@@ -31,9 +31,10 @@ loop-again c =
 
 returns : tie.Need-returns Inv-loop μ-loop
 returns c =
+    let clear-row = c .before .before .before .before .clear-row in
     let s = c .before .before .before .before .before .before .before .before .before in
     let e : c .before .loop .c ≡ s .args .n = omega arith in
-    made-row-trans (c .before .before .before .before .clear-row .ensures) (composing-all (rw e at (c .before .loop .inv .1)))
+    made-row-trans (clear-row .ensures) (composing-all (rw e at (c .before .loop .inv .1)))
 
 pub compose-row-spec : {M : Type 1} → statement M
 compose-row-spec =

@@ -14,7 +14,9 @@ abbrev μ-loop : tie.MeasureT-loop
 μ-loop m₀ n b₀ m b = n - b
 
 loop-again : tie.Need-loop-again Inv-loop μ-loop
-loop-again c = (omega arith, made-more (c .before .before .before .before .before .loop .inv .1) (c .before .before .clear-row .ensures))
+loop-again c =
+    let turn = c .before .before .before .before .before .loop in
+    (omega arith, made-more (turn .inv .1) (c .before .before .clear-row .ensures))
 
 same-length : tie.Need-same-length Inv-loop μ-loop
 same-length c = c .before .loop .inv .1 .rest .size

@@ -27,7 +27,8 @@ loop-again c =
 
 returns : tie.Need-returns Inv-loop μ-loop
 returns c =
-    let e : c .before .loop .b ≡ c .before .before .before .before .args .n = omega arith in
+    let entry = c .before .before .before .before in
+    let e : c .before .loop .b ≡ entry .args .n = omega arith in
     phase-all (rw e at (c .before .loop .inv .1))
 
 pub join-spec : {M : Type 1} → statement M

@@ -1,0 +1,104 @@
+// The least witness of each finding of a sound table, searched for in its relations.
+use cycle::least_cycle;
+use findings::Finding;
+use findings::Findings;
+use findings::Found;
+use limits::LIMIT;
+use relations::make_all;
+use relations::reads::unjustified;
+use relations::shown::shows_pair;
+ghost use Rattle.laws.specs.Witness.{PairWith};
+ghost use Rattle.findings.specs.declared.Finding.the-variants.{R};
+ghost use Rattle.findings.specs.Meant.{Finds};
+ghost use Rattle.model.specs.Findings.{Shows};
+ghost use Rattle.table.specs.Events.{eventsOf};
+ghost use Rattle.facts.specs.Sound.{Counted};
+ghost use Rattle.judge.specs.Answer.{Roomy};
+ghost use Rattle.judge.specs.Parts.{Related, Lending, PairShows, FoundAll};
+
+// R: the least read that is not justified.
+fn find_read(table: &[u8], n: usize, cf: &[u8], hb: &[u8], race: &[u8]) -> Found
+    requires { ⌜ Related (now table) n (now cf) (now hb) (now race) ⌝ }
+    ensures { λ r. ⌜ Finds (Shows (eventsOf (now (table .entry))) R) r ⌝ }
+{
+    for r in 0..n {
+        if unjustified(table, hb, race, n, r) {
+            return Found::Record(r);
+        }
+    }
+    Found::Nothing
+}
+
+// The least pair that shows the finding: "the search stops at the first pair that fits".
+fn find_pair(finding: Finding, table: &[u8], n: usize, cf: &[u8], hb: &[u8], race: &[u8]) -> Found
+    requires { ⌜ Related (now table) n (now cf) (now hb) (now race) ⌝ }
+    ensures { λ r. ⌜ Finds (PairWith (PairShows (eventsOf (now (table .entry))) finding)) r ⌝ }
+{
+    let mut found = Found::Nothing;
+    'search: for p in 0..n {
+        for q in 0..n {
+            if shows_pair(finding, table, cf, hb, race, n, p, q) {
+                found = Found::Pair(p, q);
+                break 'search;
+            }
+        }
+    }
+    found
+}
+
+// Each finding in order, in the relations that it speaks of.
+fn find_in(
+    table: &[u8],
+    n: usize,
+    cf: &[u8],
+    hb: &[u8],
+    race: &[u8],
+    wb0: &[u8],
+    sc: &[u8],
+    first: &mut [u8],
+    second: &mut [u8],
+) -> Findings
+    requires { ⌜ Related (now table) n (now cf) (now hb) (now race) × Lending (now table) n (now wb0) (now sc) (now first) (now second) ⌝ }
+    ensures { λ x. ⌜ FoundAll (eventsOf (now (table .entry))) (now (first .entry)) (now (first .exit)) (now (second .entry)) (now (second .exit)) x ⌝ }
+{
+    let r = find_read(table, n, cf, hb, race);
+    let a1 = least_cycle(wb0, n, first);
+    let a2 = find_pair(Finding::A2, table, n, cf, hb, race);
+    let a3 = find_pair(Finding::A3, table, n, cf, hb, race);
+    let a4 = least_cycle(sc, n, second);
+    let w = find_pair(Finding::W, table, n, cf, hb, race);
+    Findings {
+        r: r,
+        a1: a1,
+        a2: a2,
+        a3: a3,
+        a4: a4,
+        w: w,
+    }
+}
+
+// What is found of each finding of a sound table; the cycle of A1 in the first buffer, that of A4 in the second.
+pub fn find_all(table: &[u8], n: usize, first: &mut [u8], second: &mut [u8]) -> Findings
+    requires { ⌜ Counted (now table) n × Roomy (now first) (now second) ⌝ }
+    ensures { λ x. ⌜ FoundAll (eventsOf (now (table .entry))) (now (first .entry)) (now (first .exit)) (now (second .entry)) (now (second .exit)) x ⌝ }
+{
+    let mut po = [0u8; LIMIT * LIMIT];
+    let mut cf = [0u8; LIMIT * LIMIT];
+    let mut hb = [0u8; LIMIT * LIMIT];
+    let mut race = [0u8; LIMIT * LIMIT];
+    let mut wb0 = [0u8; LIMIT * LIMIT];
+    let mut wb = [0u8; LIMIT * LIMIT];
+    let mut sc = [0u8; LIMIT * LIMIT];
+    make_all(
+        table,
+        n,
+        &mut po,
+        &mut cf,
+        &mut hb,
+        &mut race,
+        &mut wb0,
+        &mut wb,
+        &mut sc,
+    );
+    find_in(table, n, &cf, &hb, &race, &wb0, &sc, first, second)
+}
