@@ -3,15 +3,15 @@
 set -eu
 cd "$(dirname "$0")"
 cargo build --release -j1 --offline --quiet
-cargo build --release -j1 --offline --quiet --features wrong --target-dir target/wrong --bin second-batch
+cargo build --release -j1 --offline --quiet --features wrong --target-dir target/wrong --bin second-questions
 work=$(mktemp -d)
 trap 'rm -r "$work"' EXIT
-target/release/second-generate "${1:-1}" "${2:-2000}" > "$work/batch"
-target/release/second-batch < "$work/batch" > "$work/right"
-target/wrong/release/second-batch < "$work/batch" > "$work/wrong"
-target/release/second-compare "$work/batch" "$work/right" "$work/right"
+target/release/second-generate "${1:-1}" "${2:-2000}" > "$work/questions"
+target/release/second-questions < "$work/questions" > "$work/right"
+target/wrong/release/second-questions < "$work/questions" > "$work/wrong"
+target/release/second-compare "$work/questions" "$work/right" "$work/right"
 status=0
-target/release/second-compare "$work/batch" "$work/right" "$work/wrong" > "$work/found" || status=$?
+target/release/second-compare "$work/questions" "$work/right" "$work/wrong" > "$work/found" || status=$?
 tail -n 1 "$work/found"
 if [ "$status" -ne 1 ]; then
     echo "the wrong judge was not found"

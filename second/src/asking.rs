@@ -1,8 +1,8 @@
 //! Making the questions beside judging: cuts, appends and fetches of a table.
 
-use crate::batch::Question;
 use crate::findings::racing_writes_stood_on;
 use crate::grow::{propose, PROFILES};
+use crate::questions::Question;
 use crate::random::Random;
 use crate::record::{init, put_read, put_written, Bytes};
 use crate::relations::Relations;

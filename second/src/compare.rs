@@ -1,6 +1,6 @@
-//! Comparing two lists of answers to one batch.
+//! Comparing two lists of answers to the same questions.
 
-use crate::batch::Question;
+use crate::questions::Question;
 
 /// A report of each difference, with the operation and the table in hex.
 pub fn differences(questions: &[Question], one: &[Vec<String>], other: &[Vec<String>]) -> Vec<String> {

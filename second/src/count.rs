@@ -1,6 +1,6 @@
-//! Counting what a batch and its answers reach, and naming what is missing.
+//! Counting what questions and their answers reach, and naming what is missing.
 
-use crate::batch::Question;
+use crate::questions::Question;
 use std::collections::BTreeMap;
 
 pub const FINDINGS: [&str; 6] = ["R", "A1", "A2", "A3", "A4", "W"];

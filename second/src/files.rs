@@ -1,6 +1,6 @@
-//! Files for the small programs: a batch, and the answers to it; a fault ends the program with 2.
+//! Files for the small programs: questions, and the answers to them; a fault ends the program with 2.
 
-use crate::batch::{questions, split_answers, Question};
+use crate::questions::{all_questions, split_answers, Question};
 use std::process::exit;
 
 fn fail(path: &str, why: impl std::fmt::Display) -> ! {
@@ -8,12 +8,12 @@ fn fail(path: &str, why: impl std::fmt::Display) -> ! {
     exit(2)
 }
 
-pub fn read_batch(path: &str) -> Vec<Question> {
+pub fn read_questions(path: &str) -> Vec<Question> {
     let bytes = std::fs::read(path).unwrap_or_else(|why| fail(path, why));
-    questions(&bytes).unwrap_or_else(|why| fail(path, why))
+    all_questions(&bytes).unwrap_or_else(|why| fail(path, why))
 }
 
-pub fn read_answers(path: &str, batch: &[Question]) -> Vec<Vec<String>> {
+pub fn read_answers(path: &str, asked: &[Question]) -> Vec<Vec<String>> {
     let text = std::fs::read_to_string(path).unwrap_or_else(|why| fail(path, why));
-    split_answers(batch, &text).unwrap_or_else(|why| fail(path, why))
+    split_answers(asked, &text).unwrap_or_else(|why| fail(path, why))
 }

@@ -1,71 +1,13 @@
 //! Patterns that hold one chosen finding, in sizes chosen too, and the tables made of them.
 
-use crate::record::{init, load, load_u, put_written, store, update, Bytes};
+use crate::builder::Builder;
+use crate::record::{load_u, put_written, Bytes};
 use crate::sc_gadgets::{far_fr_ring, init_above_ring, long_way_ring, two_stores_ring, Way};
-use crate::table::NONE;
 
 const NA: u8 = 0;
 const ACQ: u8 = 1;
 const REL: u8 = 2;
 const SC: u8 = 4;
-
-/// A table under construction, with threads and locations that are still free.
-pub struct Builder {
-    pub table: Vec<Bytes>,
-    next_thread: u8,
-    next_location: u8,
-}
-
-impl Default for Builder {
-    fn default() -> Builder {
-        Builder { table: vec![init(0, NONE)], next_thread: 1, next_location: 0 }
-    }
-}
-
-impl Builder {
-    fn push(&mut self, record: Bytes) -> u8 {
-        self.table.push(record);
-        self.table.len() as u8 - 1
-    }
-
-    fn thread_of(&self, number: u8) -> u8 {
-        self.table[number as usize][4]
-    }
-
-    pub fn location(&mut self) -> u8 {
-        self.next_location += 1;
-        self.next_location - 1
-    }
-
-    /// An Init of a thread not used before.
-    pub fn thread(&mut self, parent: u8) -> u8 {
-        self.next_thread += 1;
-        self.push(init(self.next_thread - 1, parent))
-    }
-
-    pub fn store(&mut self, order: u8, parent: u8, location: u8, value: u16) -> u8 {
-        self.push(store(order, self.thread_of(parent), parent, location, value))
-    }
-
-    /// A load of what the source wrote.
-    pub fn load(&mut self, order: u8, parent: u8, source: u8) -> u8 {
-        let written = self.table[source as usize];
-        let value = u16::from_le_bytes([written[12], written[13]]);
-        self.push(load(order, self.thread_of(parent), parent, source, written[7], value))
-    }
-
-    /// A load of u without a source.
-    pub fn load_u(&mut self, order: u8, parent: u8, location: u8) -> u8 {
-        self.push(load_u(order, self.thread_of(parent), parent, NONE, location))
-    }
-
-    /// An SC update of what the source wrote.
-    pub fn update(&mut self, parent: u8, source: u8, value: u16) -> u8 {
-        let written = self.table[source as usize];
-        let read = u16::from_le_bytes([written[12], written[13]]);
-        self.push(update(SC, self.thread_of(parent), parent, source, written[7], read, value))
-    }
-}
 
 /// R, as in E6.
 pub fn unjustified(b: &mut Builder, base: u8) {

@@ -1,14 +1,14 @@
-//! The generator: a batch of questions from a seed, E1 to E10 first.
+//! The generator: questions from a seed, E1 to E10 first.
 
 use crate::asking::{ask_append, ask_cut, ask_fetch, closed_selection, unsettle};
-use crate::batch::Question;
+use crate::builder::Builder;
 use crate::damage::{damage, damage_once, scatter};
 use crate::examples::{example, examples};
 use crate::gadgets::{
     add_finding, far_read, far_standing, finding_sets, several_racing, sized_tables, standing_on_races,
-    Builder,
 };
 use crate::grow::{grow, propose, shuffle, PROFILES, RACES};
+use crate::questions::Question;
 use crate::random::Random;
 use crate::record::{init, store, Bytes};
 use crate::table::NONE;

@@ -1,7 +1,7 @@
 //! The second opinion: a judge of tables written from document 01 alone, with what the comparison needs.
 
 pub mod asking;
-pub mod batch;
+pub mod builder;
 pub mod compare;
 pub mod count;
 pub mod damage;
@@ -12,6 +12,7 @@ pub mod findings;
 pub mod gadgets;
 pub mod generate;
 pub mod grow;
+pub mod questions;
 pub mod random;
 pub mod record;
 pub mod relations;

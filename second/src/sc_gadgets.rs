@@ -1,6 +1,6 @@
 //! Rings of SC records whose steps take the long ways: through flags, Inits and writes in between.
 
-use crate::gadgets::Builder;
+use crate::builder::Builder;
 
 const NA: u8 = 0;
 const ACQ: u8 = 1;

@@ -1,10 +1,10 @@
-//! The comparison finds a judge that is wrong on purpose, and the batch reaches all that it should.
+//! The comparison finds a judge that is wrong on purpose, and the questions reach all that it should.
 #![cfg(not(feature = "wrong"))]
 
-use second::batch::split_answers;
 use second::compare::differences;
 use second::count::Counts;
 use second::generate::generate;
+use second::questions::split_answers;
 
 #[test]
 fn a_judge_that_stops_after_ten_steps_is_found() {

@@ -1,9 +1,9 @@
-//! Cut, append, fetch and the batch, against what document 01 says of them.
+//! Cut, append, fetch and the questions, against what document 01 says of them.
 #![cfg(not(feature = "wrong"))]
 
-use second::batch::{questions, split_answers, Question};
 use second::edit::{append, cut, fetch, fetch_refusal};
 use second::examples::{example, examples};
+use second::questions::{all_questions, split_answers, Question};
 use second::record::{init, load, store};
 use second::table::{Refusal, NONE};
 
@@ -86,14 +86,14 @@ fn fetch_tests_only_1_and_13() {
 }
 
 #[test]
-fn a_batch_comes_back_as_it_was_written() {
+fn questions_come_back_as_they_were_written() {
     let mut list: Vec<Question> =
         examples().into_iter().map(|e| Question::Judge { table: e.bytes }).collect();
     list.push(Question::Cut { selection: 7, output_size: 0, table: example("E2") });
     list.push(Question::Append { in_use: 1, event: init(1, 0), buffer: vec![] });
     list.push(Question::Fetch { asked: 300, table: example("E2") });
     let bytes: Vec<u8> = list.iter().flat_map(|question| question.to_bytes()).collect();
-    assert_eq!(questions(&bytes), Ok(list.clone()));
+    assert_eq!(all_questions(&bytes), Ok(list.clone()));
     let text: String = list.iter().map(|question| question.answer(usize::MAX)).collect();
     let answers = split_answers(&list, &text).unwrap();
     assert_eq!(answers[10], ["refused 11 at 0", ""]);

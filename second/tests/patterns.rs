@@ -1,7 +1,8 @@
 //! The generator's patterns hold the findings that they are made for.
 #![cfg(not(feature = "wrong"))]
 
-use second::gadgets::{arm_ring, sc_ring, store_ring, update_ring, Builder};
+use second::builder::Builder;
+use second::gadgets::{arm_ring, sc_ring, store_ring, update_ring};
 use second::sc_gadgets::{far_fr_ring, init_above_ring, long_way_ring, two_stores_ring, Way};
 use second::text::judge;
 

@@ -1,4 +1,4 @@
-//! second-generate SEED COUNT: writes a batch with at least COUNT tables to judge.
+//! second-generate SEED COUNT: writes questions with at least COUNT tables to judge.
 
 use std::io::{self, BufWriter, Write};
 use std::process::exit;

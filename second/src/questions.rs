@@ -47,7 +47,7 @@ impl Question {
         format!("{}{} table {}", self.operation(), fields, hex(self.table()))
     }
 
-    /// The question as the bytes of a batch.
+    /// The question as bytes.
     pub fn to_bytes(&self) -> Vec<u8> {
         let mut bytes = Vec::new();
         match self {
@@ -102,13 +102,13 @@ impl Question {
     }
 }
 
-/// The bytes of a batch, taken from the front.
+/// The bytes of questions, taken from the front.
 struct Rest<'a>(&'a [u8]);
 
 impl<'a> Rest<'a> {
     fn take(&mut self, count: usize) -> Result<&'a [u8], String> {
         if self.0.len() < count {
-            return Err("the batch ends inside a question".to_string());
+            return Err("the bytes end inside a question".to_string());
         }
         let (part, rest) = self.0.split_at(count);
         self.0 = rest;
@@ -125,8 +125,8 @@ impl<'a> Rest<'a> {
     }
 }
 
-/// All questions of a batch.
-pub fn questions(bytes: &[u8]) -> Result<Vec<Question>, String> {
+/// All questions of a file.
+pub fn all_questions(bytes: &[u8]) -> Result<Vec<Question>, String> {
     let mut rest = Rest(bytes);
     let mut list = Vec::new();
     while !rest.0.is_empty() {

@@ -6,7 +6,7 @@ use std::process::exit;
 fn main() -> io::Result<()> {
     let mut bytes = Vec::new();
     io::stdin().read_to_end(&mut bytes)?;
-    let questions = second::batch::questions(&bytes).unwrap_or_else(|why| {
+    let questions = second::questions::all_questions(&bytes).unwrap_or_else(|why| {
         eprintln!("{why}");
         exit(2)
     });
