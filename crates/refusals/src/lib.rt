@@ -50,10 +50,7 @@ impl Told {
     fn at(number: usize, place: usize) -> Told
         ensures { λ r. ⌜ r ≡ at number place ⌝ }
     {
-        Told {
-            number,
-            place,
-        }
+        Told { number, place }
     }
 }
 

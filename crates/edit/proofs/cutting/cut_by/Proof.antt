@@ -1,4 +1,4 @@
--- `cutting::cut_by` meets its contract.
+-- `cutting::cut_by` meets its contract: the least record that lacks something is 10's place.
 use mathlib.Core.Path.{refl}
 use borrow.Author.Needs.{needs}
 use denote.Ref.{now}

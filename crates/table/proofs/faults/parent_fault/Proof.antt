@@ -1,4 +1,4 @@
--- `table::faults::parent_fault` meets its contract: each way out rewrites by the tests that led there.
+-- `faults::parent_fault` meets its contract: each way out rewrites by the tests that led there.
 use mathlib.Core.Path.{_≡_, sym, _∙_}
 use mathlib.Core.Bool.{true}
 use Prim.Native.Nat.{ℕ, _<_}

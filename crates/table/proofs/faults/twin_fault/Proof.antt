@@ -1,4 +1,4 @@
--- `table::faults::twin_fault` meets its contract: what was found is what a search below m finds.
+-- `faults::twin_fault` meets its contract: what was found is what a search below m finds.
 use mathlib.Core.Path.{_≡_, refl, ap, _∙_}
 use mathlib.Core.List.{List}
 use Prim.Native.Nat.{ℕ, _-_, _≤_}
