@@ -23,7 +23,7 @@ returns c =
     let asked = c .before .before .before in
     let s = asked .before .before .before .before in
     record {
-      decided = lacking (s .pre .selected) (rw (c .before .n .given .1) at (asked .least-lacking .ensures)) refl refl;
+      decided = lacking (s .pre .selected) (rw (c .before .n .given .1) at (asked .least-lacking .ensures)) refl;
       bytes = refl;
     }
 
