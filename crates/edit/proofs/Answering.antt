@@ -59,4 +59,4 @@ module _ {b : List ℕ} {k : ℕ → Bool} {before : List ℕ} {n r : ℕ} (whol
   }
 
   pub no-room-answer : length before < 16 * r → CutAnswer b k before before (Refused Room)
-  no-room-answer h = record { decided = no-room whole (λ l. absurd (omega (arith, size))) refl refl; bytes = refl }
+  no-room-answer h = record { decided = no-room whole (λ l. absurd (omega (arith, size))) refl; bytes = refl }

@@ -9,21 +9,17 @@ use Rattle.events.specs.declared.Record.{Record}
 use Rattle.limits.specs.Limit.{limit}
 use Rattle.record.specs.Form.{encode, overwritten}
 use Rattle.record.specs.Fits.{Fits}
-use Rattle.record.proofs.Parts.{encode-length}
+use Rattle.record.proofs.Parts.{encode-whole}
 use Rattle.model.specs.Table.{Table, Inside}
 use Rattle.model.specs.WellFormed.{WellFormed}
 use Rattle.table.specs.declared.Tested.the-variants as tested
 use Rattle.table.specs.Events.{countOf, eventsOf, written, bytesOf}
 use Rattle.table.specs.Test.{Passes, RecordsAnswer, sound}
-use Rattle.table.proofs.Exact.{Whole, passes-alike}
+use Rattle.table.proofs.Exact.{passes-alike}
 use Rattle.table.proofs.WellFormed.{test-pass}
 use Rattle.table.proofs.Written.{written-length, written-part, written-read, written-sound}
 use Rattle.edit.specs.declared.appending.Appended.the-variants.{Count}
 use Rattle.edit.specs.Append.{Ready, good, AppendAnswer, Appends, nothing, one-more, Builds}
-
-encode-whole : (r : Record) → Whole (encode r)
-unfolding encode
-encode-whole r = record { long = encode-length r; low-read = omega arith; low-written = omega arith }
 
 module _ (t : Table) (well : WellFormed t) (fits : (n : ℕ) → Inside t n → Fits (t .at n)) (small : t .count ≤ limit) where
   whole-passes : (n : ℕ) → Inside t n → Passes (bytesOf t) n

@@ -30,11 +30,11 @@ module _ {b : List ℕ} {used : ℕ} where
       records-pass (front b used) used (s .sound) .each m (omega (arith, front-count b used (s .in-use .held)))
 
   pub count-ready : {new : Record} {a : Appended} {n : ℕ} → Decides b used new a → a ≡ Count n → Ready b used
-  count-ready (not-in-use _ _ _) e = absurd (let z : _≡_ {A = ℕ} 0 1 = cc in omega arith)
+  count-ready (not-in-use _ _) e = absurd (let z : _≡_ {A = ℕ} 0 1 = cc in omega arith)
   count-ready (bad-record _ _) e = absurd (let z : _≡_ {A = ℕ} 0 1 = cc in omega arith)
-  count-ready (full _ _ _ _) e = absurd (let z : _≡_ {A = ℕ} 0 1 = cc in omega arith)
-  count-ready (no-room _ _ _ _ _) e = absurd (let z : _≡_ {A = ℕ} 0 1 = cc in omega arith)
-  count-ready (bad-new _ _ _ _) e = absurd (let z : _≡_ {A = ℕ} 0 1 = cc in omega arith)
+  count-ready (full _ _ _) e = absurd (let z : _≡_ {A = ℕ} 0 1 = cc in omega arith)
+  count-ready (no-room _ _ _ _) e = absurd (let z : _≡_ {A = ℕ} 0 1 = cc in omega arith)
+  count-ready (bad-new _ _ _) e = absurd (let z : _≡_ {A = ℕ} 0 1 = cc in omega arith)
   count-ready (good ready _) e = ready
 
 -- "by 3 to 8": the bytes that are read have the mark, so 2 is never given

@@ -4,18 +4,16 @@ use mathlib.Core.List.{List}
 use Prim.Native.Nat.{ℕ, _+_}
 use native.Mathlib.Omega.{arith}
 use Rattle.events.specs.declared.Record.{Record}
+use Rattle.refusals.specs.declared.Fault.{Fault}
 use Rattle.refusals.specs.declared.Refusal.{Refusal}
-use Rattle.refusals.specs.Numbers.{faultNumber, numberOf, placeOf}
+use Rattle.refusals.specs.Numbers.{at, faultNumber}
+use Rattle.refusals.proofs.Known.{same-refusal}
 use Rattle.table.specs.declared.Tested.the-variants as tested
 use Rattle.table.specs.Test.{RecordsAnswer}
-use Rattle.table.proofs.Unique.{refusal-one, records-one, fault-one, no-fault}
+use Rattle.table.proofs.Unique.{records-one, fault-one, no-fault}
 use Rattle.edit.specs.declared.appending.Appended.{Appended}
 use Rattle.edit.specs.declared.appending.Appended.the-variants.{Refused, Count}
 use Rattle.edit.specs.Append.{Decides, not-in-use, bad-record, full, no-room, bad-new, good, bytesAfter, AppendAnswer, Appends, nothing, one-more}
-
--- two refusals of one number and place
-pub same-refusal : {r s : Refusal} {k p : ℕ} → numberOf r ≡ k → placeOf r ≡ p → numberOf s ≡ k → placeOf s ≡ p → r ≡ s
-same-refusal {r} {s} a b c d = refusal-one r s (a ∙ sym c) (b ∙ sym d)
 
 -- records are sound or refused, not both
 pub sound-or-refused : {A : Type 0} {b : List ℕ} {n : ℕ} {r : Refusal} → RecordsAnswer b (tested.Sound n) → RecordsAnswer b (tested.Refused r) → A
@@ -28,41 +26,41 @@ refused-inside e = cc
 
 module _ {b : List ℕ} {used : ℕ} {new : Record} where
   decides-one : {x y : Appended} → Decides b used new x → Decides b used new y → x ≡ y
-  decides-one (not-in-use _ k p) (not-in-use _ l q) = ap Refused (same-refusal k p l q)
-  decides-one (not-in-use u _ _) (bad-record v _) = absurd (u v)
-  decides-one (not-in-use u _ _) (full v _ _ _) = absurd (u (v .in-use))
-  decides-one (not-in-use u _ _) (no-room v _ _ _ _) = absurd (u (v .in-use))
-  decides-one (not-in-use u _ _) (bad-new v _ _ _) = absurd (u (v .sound-use .in-use))
-  decides-one (not-in-use u _ _) (good v _) = absurd (u (v .sound-use .in-use))
-  decides-one (bad-record v _) (not-in-use u _ _) = absurd (u v)
+  decides-one (not-in-use _ e) (not-in-use _ h) = ap Refused (same-refusal e h)
+  decides-one (not-in-use u _) (bad-record v _) = absurd (u v)
+  decides-one (not-in-use u _) (full v _ _) = absurd (u (v .in-use))
+  decides-one (not-in-use u _) (no-room v _ _ _) = absurd (u (v .in-use))
+  decides-one (not-in-use u _) (bad-new v _ _) = absurd (u (v .sound-use .in-use))
+  decides-one (not-in-use u _) (good v _) = absurd (u (v .sound-use .in-use))
+  decides-one (bad-record v _) (not-in-use u _) = absurd (u v)
   decides-one (bad-record _ x) (bad-record _ y) = ap Refused (refused-inside (records-one x y))
-  decides-one (bad-record _ x) (full v _ _ _) = sound-or-refused (v .sound) x
-  decides-one (bad-record _ x) (no-room v _ _ _ _) = sound-or-refused (v .sound) x
-  decides-one (bad-record _ x) (bad-new v _ _ _) = sound-or-refused (v .sound-use .sound) x
+  decides-one (bad-record _ x) (full v _ _) = sound-or-refused (v .sound) x
+  decides-one (bad-record _ x) (no-room v _ _ _) = sound-or-refused (v .sound) x
+  decides-one (bad-record _ x) (bad-new v _ _) = sound-or-refused (v .sound-use .sound) x
   decides-one (bad-record _ x) (good v _) = sound-or-refused (v .sound-use .sound) x
-  decides-one (full v _ _ _) (not-in-use u _ _) = absurd (u (v .in-use))
-  decides-one (full v _ _ _) (bad-record _ x) = sound-or-refused (v .sound) x
-  decides-one (full _ _ k p) (full _ _ l q) = ap Refused (same-refusal k p l q)
-  decides-one (full _ is _ _) (no-room _ not _ _ _) = absurd (not is)
-  decides-one (full _ is _ _) (bad-new v _ _ _) = absurd (v .not-full is)
-  decides-one (full _ is _ _) (good v _) = absurd (v .not-full is)
-  decides-one (no-room v _ _ _ _) (not-in-use u _ _) = absurd (u (v .in-use))
-  decides-one (no-room v _ _ _ _) (bad-record _ x) = sound-or-refused (v .sound) x
-  decides-one (no-room _ not _ _ _) (full _ is _ _) = absurd (not is)
-  decides-one (no-room _ _ _ k p) (no-room _ _ _ l q) = ap Refused (same-refusal k p l q)
-  decides-one (no-room _ _ short _ _) (bad-new v _ _ _) = absurd (short (v .room))
-  decides-one (no-room _ _ short _ _) (good v _) = absurd (short (v .room))
-  decides-one (bad-new v _ _ _) (not-in-use u _ _) = absurd (u (v .sound-use .in-use))
-  decides-one (bad-new v _ _ _) (bad-record _ x) = sound-or-refused (v .sound-use .sound) x
-  decides-one (bad-new v _ _ _) (full _ is _ _) = absurd (v .not-full is)
-  decides-one (bad-new v _ _ _) (no-room _ _ short _ _) = absurd (short (v .room))
-  decides-one (bad-new _ x k p) (bad-new _ y l q) = ap Refused (same-refusal k p (l ∙ ap faultNumber (fault-one y x)) q)
-  decides-one (bad-new _ x _ _) (good _ passes) = no-fault passes x
-  decides-one (good v _) (not-in-use u _ _) = absurd (u (v .sound-use .in-use))
+  decides-one (full v _ _) (not-in-use u _) = absurd (u (v .in-use))
+  decides-one (full v _ _) (bad-record _ x) = sound-or-refused (v .sound) x
+  decides-one (full _ _ e) (full _ _ h) = ap Refused (same-refusal e h)
+  decides-one (full _ is _) (no-room _ not _ _) = absurd (not is)
+  decides-one (full _ is _) (bad-new v _ _) = absurd (v .not-full is)
+  decides-one (full _ is _) (good v _) = absurd (v .not-full is)
+  decides-one (no-room v _ _ _) (not-in-use u _) = absurd (u (v .in-use))
+  decides-one (no-room v _ _ _) (bad-record _ x) = sound-or-refused (v .sound) x
+  decides-one (no-room _ not _ _) (full _ is _) = absurd (not is)
+  decides-one (no-room _ _ _ e) (no-room _ _ _ h) = ap Refused (same-refusal e h)
+  decides-one (no-room _ _ short _) (bad-new v _ _) = absurd (short (v .room))
+  decides-one (no-room _ _ short _) (good v _) = absurd (short (v .room))
+  decides-one (bad-new v _ _) (not-in-use u _) = absurd (u (v .sound-use .in-use))
+  decides-one (bad-new v _ _) (bad-record _ x) = sound-or-refused (v .sound-use .sound) x
+  decides-one (bad-new v _ _) (full _ is _) = absurd (v .not-full is)
+  decides-one (bad-new v _ _) (no-room _ _ short _) = absurd (short (v .room))
+  decides-one (bad-new _ x e) (bad-new _ y h) = ap Refused (same-refusal e (h ∙ ap (λ (f : Fault). at (faultNumber f) used) (fault-one y x)))
+  decides-one (bad-new _ x _) (good _ passes) = no-fault passes x
+  decides-one (good v _) (not-in-use u _) = absurd (u (v .sound-use .in-use))
   decides-one (good v _) (bad-record _ x) = sound-or-refused (v .sound-use .sound) x
-  decides-one (good v _) (full _ is _ _) = absurd (v .not-full is)
-  decides-one (good v _) (no-room _ _ short _ _) = absurd (short (v .room))
-  decides-one (good _ passes) (bad-new _ x _ _) = no-fault passes x
+  decides-one (good v _) (full _ is _) = absurd (v .not-full is)
+  decides-one (good v _) (no-room _ _ short _) = absurd (short (v .room))
+  decides-one (good _ passes) (bad-new _ x _) = no-fault passes x
   decides-one (good _ _) (good _ _) = refl
 
   pub append-one :

@@ -7,6 +7,8 @@ use Prim.Native.Nat.{ℕ, _*_, _≤_}
 use native.Mathlib.Omega.{arith}
 use lib.ListN.{length}
 use Rattle.refusals.specs.declared.Refusal.{Refusal}
+use Rattle.refusals.specs.Numbers.{at}
+use Rattle.refusals.proofs.Known.{same-refusal}
 use Rattle.laws.specs.Least.{LeastNumber}
 use Rattle.laws.proofs.Least.{number-unique}
 use Rattle.model.specs.Cut.{newNumber}
@@ -18,7 +20,7 @@ use Rattle.edit.specs.declared.cutting.CutDown.{CutDown}
 use Rattle.edit.specs.declared.cutting.CutDown.the-variants.{Refused, Kept}
 use Rattle.edit.specs.Selection.{Refused9}
 use Rattle.edit.specs.Cut.{Lacking, Selected, Whole, Decides, bad-table, bad-selection, lacking, no-room, good, bytesAfter, CutAnswer}
-use Rattle.edit.proofs.OneAppend.{same-refusal, refused-inside}
+use Rattle.edit.proofs.OneAppend.{refused-inside}
 
 sound-inside : {m n : ℕ} → tested.Sound m ≡ tested.Sound n → m ≡ n
 sound-inside e = cc
@@ -53,29 +55,29 @@ module _ {b : List ℕ} {k : ℕ → Bool} where
   module _ {before : List ℕ} where
     decides-one : {x y : CutDown} → Decides b k before x → Decides b k before y → x ≡ y
     decides-one (bad-table x) (bad-table y) = ap Refused (refused-inside (test-one x y))
-    decides-one (bad-table x) (bad-selection y _ _ _) = not-sound y x
-    decides-one (bad-table x) (lacking y _ _ _) = not-sound (y .sound) x
-    decides-one (bad-table x) (no-room y _ _ _) = not-sound (y .selected .sound) x
+    decides-one (bad-table x) (bad-selection y _ _) = not-sound y x
+    decides-one (bad-table x) (lacking y _ _) = not-sound (y .sound) x
+    decides-one (bad-table x) (no-room y _ _) = not-sound (y .selected .sound) x
     decides-one (bad-table x) (good y _) = not-sound (y .selected .sound) x
-    decides-one (bad-selection x _ _ _) (bad-table y) = not-sound x y
-    decides-one (bad-selection _ _ i p) (bad-selection _ _ j q) = ap Refused (same-refusal i p j q)
-    decides-one (bad-selection x z _ _) (lacking y _ _ _) = not-selected x z y
-    decides-one (bad-selection x z _ _) (no-room y _ _ _) = not-selected x z (y .selected)
-    decides-one (bad-selection x z _ _) (good y _) = not-selected x z (y .selected)
-    decides-one (lacking x _ _ _) (bad-table y) = not-sound (x .sound) y
-    decides-one (lacking x _ _ _) (bad-selection y z _ _) = not-selected y z x
-    decides-one (lacking _ x i p) (lacking _ y j q) = ap Refused (same-refusal i p j (q ∙ some-inside (number-unique y x)))
-    decides-one (lacking _ x _ _) (no-room y _ _ _) = not-whole x y
-    decides-one (lacking _ x _ _) (good y _) = not-whole x y
-    decides-one (no-room x _ _ _) (bad-table y) = not-sound (x .selected .sound) y
-    decides-one (no-room x _ _ _) (bad-selection y z _ _) = not-selected y z (x .selected)
-    decides-one (no-room x _ _ _) (lacking _ y _ _) = not-whole y x
-    decides-one (no-room _ _ i p) (no-room _ _ j q) = ap Refused (same-refusal i p j q)
-    decides-one (no-room x tight _ _) (good y l) = short before x y tight l
+    decides-one (bad-selection x _ _) (bad-table y) = not-sound x y
+    decides-one (bad-selection _ _ e) (bad-selection _ _ h) = ap Refused (same-refusal e h)
+    decides-one (bad-selection x z _) (lacking y _ _) = not-selected x z y
+    decides-one (bad-selection x z _) (no-room y _ _) = not-selected x z (y .selected)
+    decides-one (bad-selection x z _) (good y _) = not-selected x z (y .selected)
+    decides-one (lacking x _ _) (bad-table y) = not-sound (x .sound) y
+    decides-one (lacking x _ _) (bad-selection y z _) = not-selected y z x
+    decides-one (lacking _ x e) (lacking _ y h) = ap Refused (same-refusal e (h ∙ ap (at 10) (some-inside (number-unique y x))))
+    decides-one (lacking _ x _) (no-room y _ _) = not-whole x y
+    decides-one (lacking _ x _) (good y _) = not-whole x y
+    decides-one (no-room x _ _) (bad-table y) = not-sound (x .selected .sound) y
+    decides-one (no-room x _ _) (bad-selection y z _) = not-selected y z (x .selected)
+    decides-one (no-room x _ _) (lacking _ y _) = not-whole y x
+    decides-one (no-room _ _ e) (no-room _ _ h) = ap Refused (same-refusal e h)
+    decides-one (no-room x tight _) (good y l) = short before x y tight l
     decides-one (good x _) (bad-table y) = not-sound (x .selected .sound) y
-    decides-one (good x _) (bad-selection y z _ _) = not-selected y z (x .selected)
-    decides-one (good x _) (lacking _ y _ _) = not-whole y x
-    decides-one (good x l) (no-room y tight _ _) = short before y x tight l
+    decides-one (good x _) (bad-selection y z _) = not-selected y z (x .selected)
+    decides-one (good x _) (lacking _ y _) = not-whole y x
+    decides-one (good x l) (no-room y tight _) = short before y x tight l
     decides-one (good x _) (good y _) = ap (λ (n : ℕ). Kept (newNumber k n)) (one-count (x .selected .sound) (y .selected .sound))
 
     pub cut-one :

@@ -10,7 +10,7 @@ use lib.Dec.{T}
 use lib.ListN.{length, take, drop}
 use lib.Seq.{take-at}
 use Rattle.laws.specs.Least.{Least, LeastNumber}
-use Rattle.laws.proofs.Says.{says-T, says-eq, says-le, says-not, says-and, says-dec}
+use Rattle.laws.proofs.Says.{by-dec, says-T, says-eq, says-le, says-not, says-and, says-dec}
 use Rattle.limits.specs.Limit.{limit}
 use Rattle.record.specs.declared.Decoded.the-variants.{Good}
 use Rattle.record.specs.Form.{parentByte, sourceByte, decode, part}
@@ -38,10 +38,6 @@ use Rattle.edit.proofs.RecordLinks.{earlier}
 use Rattle.edit.proofs.Relinked.{decode-renumbered}
 
 -- ---- a selection that is not refused
-
-by-dec : {P : Type 0} → Dec P → ¬ ¬ P → P
-by-dec (yes p) h = p
-by-dec (no n) h = absurd (h n)
 
 -- whether some number below n has P
 search-below : {P : ℕ → Type 0} → ((i : ℕ) → Dec (P i)) → (n : ℕ) → Dec ((i : ℕ) × ((i < n) × P i))
@@ -166,9 +162,9 @@ module _ (b : List ℕ) (k : ℕ → Bool) (S : SoundTable b) where
 
 kept-whole : {b before : List ℕ} {k : ℕ → Bool} {n : ℕ} {a : CutDown} → Decides b k before a → a ≡ Kept n → (m : ℕ) × (Whole b k m × (n ≡ newNumber k m))
 kept-whole (bad-table _) e = absurd (let z : _≡_ {A = ℕ} 0 1 = cc in omega arith)
-kept-whole (bad-selection _ _ _ _) e = absurd (let z : _≡_ {A = ℕ} 0 1 = cc in omega arith)
-kept-whole (lacking _ _ _ _) e = absurd (let z : _≡_ {A = ℕ} 0 1 = cc in omega arith)
-kept-whole (no-room _ _ _ _) e = absurd (let z : _≡_ {A = ℕ} 0 1 = cc in omega arith)
+kept-whole (bad-selection _ _ _) e = absurd (let z : _≡_ {A = ℕ} 0 1 = cc in omega arith)
+kept-whole (lacking _ _ _) e = absurd (let z : _≡_ {A = ℕ} 0 1 = cc in omega arith)
+kept-whole (no-room _ _ _) e = absurd (let z : _≡_ {A = ℕ} 0 1 = cc in omega arith)
 kept-whole (good {n = m} w _) e = (m, (w, cc))
 
 -- Demand 3, as one theorem about what the cut wrote

@@ -6,7 +6,7 @@ use lib.ListN.{length, take, drop}
 use Rattle.events.specs.declared.Record.{Record}
 use Rattle.refusals.specs.declared.Fault.{Fault}
 use Rattle.refusals.specs.declared.Refusal.{Refusal}
-use Rattle.refusals.specs.Numbers.{faultNumber, numberOf, placeOf}
+use Rattle.refusals.specs.Numbers.{at, faultNumber, told}
 use Rattle.limits.specs.Limit.{limit}
 use Rattle.record.specs.Form.{encode, overwritten}
 use Rattle.table.specs.declared.Tested.the-variants as tested
@@ -44,11 +44,11 @@ module _ (b : List ℕ) (used : ℕ) where
 
     -- "An append: 1, records in use, 12, 11, then the new event by 3 to 8 at the next number": which answer is given
     pub data Decides : Appended → Type 0 where
-      not-in-use : {r : Refusal} → ¬ InUse → numberOf r ≡ 1 → placeOf r ≡ 0 → Decides (Refused r)
+      not-in-use : {r : Refusal} → ¬ InUse → told r ≡ at 1 0 → Decides (Refused r)
       bad-record : {r : Refusal} → InUse → RecordsAnswer front (tested.Refused r) → Decides (Refused r)
-      full : {r : Refusal} → SoundUse → used ≡ limit → numberOf r ≡ 12 → placeOf r ≡ 0 → Decides (Refused r)
-      no-room : {r : Refusal} → SoundUse → ¬ (used ≡ limit) → ¬ (16 * used + 16 ≤ length b) → numberOf r ≡ 11 → placeOf r ≡ 0 → Decides (Refused r)
-      bad-new : {r : Refusal} {f : Fault} → Ready → FaultAt extended used f → numberOf r ≡ faultNumber f → placeOf r ≡ used → Decides (Refused r)
+      full : {r : Refusal} → SoundUse → used ≡ limit → told r ≡ at 12 0 → Decides (Refused r)
+      no-room : {r : Refusal} → SoundUse → ¬ (used ≡ limit) → ¬ (16 * used + 16 ≤ length b) → told r ≡ at 11 0 → Decides (Refused r)
+      bad-new : {r : Refusal} {f : Fault} → Ready → FaultAt extended used f → told r ≡ at (faultNumber f) used → Decides (Refused r)
       -- "an append returns the new count"
       good : Ready → Passes extended used → Decides (Count (used + 1))
 

@@ -7,7 +7,7 @@ use Prim.Native.Nat.{ℕ, zero, suc, _*_, _≤_}
 use lib.Dec.{T, eqb}
 use lib.ListN.{length, drop, set}
 use Rattle.refusals.specs.declared.Refusal.{Refusal}
-use Rattle.refusals.specs.Numbers.{numberOf, placeOf}
+use Rattle.refusals.specs.Numbers.{at, told}
 use Rattle.laws.specs.Least.{LeastNumber}
 use Rattle.record.specs.Form.{pick, parentByte, sourceByte, part}
 use Rattle.model.specs.Table.{Table, Inside}
@@ -61,10 +61,10 @@ module _ (b : List ℕ) (k : ℕ → Bool) where
     -- "A cut: 1, records, 9, 10, 11": which answer is given
     pub data Decides : CutDown → Type 0 where
       bad-table : {r : Refusal} → TestAnswer b (tested.Refused r) → Decides (Refused r)
-      bad-selection : {r : Refusal} {n : ℕ} → TestAnswer b (tested.Sound n) → Refused9 k n → numberOf r ≡ 9 → placeOf r ≡ 0 → Decides (Refused r)
+      bad-selection : {r : Refusal} {n : ℕ} → TestAnswer b (tested.Sound n) → Refused9 k n → told r ≡ at 9 0 → Decides (Refused r)
       -- "for 10 the least such kept record"
-      lacking : {r : Refusal} {n m : ℕ} → Selected n → LeastNumber (Lacking k (eventsOf b)) (some m) → numberOf r ≡ 10 → placeOf r ≡ m → Decides (Refused r)
-      no-room : {r : Refusal} {n : ℕ} → Whole n → ¬ (16 * newNumber k n ≤ length before) → numberOf r ≡ 11 → placeOf r ≡ 0 → Decides (Refused r)
+      lacking : {r : Refusal} {n m : ℕ} → Selected n → LeastNumber (Lacking k (eventsOf b)) (some m) → told r ≡ at 10 m → Decides (Refused r)
+      no-room : {r : Refusal} {n : ℕ} → Whole n → ¬ (16 * newNumber k n ≤ length before) → told r ≡ at 11 0 → Decides (Refused r)
       -- "and returns k"
       good : {n : ℕ} → Whole n → 16 * newNumber k n ≤ length before → Decides (Kept (newNumber k n))
 

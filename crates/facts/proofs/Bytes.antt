@@ -17,7 +17,7 @@ use Rattle.events.specs.Words.{isRead, isWrite, isNA, isSC, orderOf, locationOf
 use Rattle.record.specs.declared.Decoded.{Decoded}
 use Rattle.record.specs.declared.Decoded.the-variants.{Good, Bad}
 use Rattle.record.specs.Form.{pick, byteAt, kindByte, orderByte, locationByte, inRow, orderFrom, eventFrom, readFrom, writtenFrom, recordFrom, decode, part}
-use Rattle.record.specs.Rows.{InRow, ReadAs, good, bad-2, bad-3, bad-4, bad-5}
+use Rattle.record.specs.Refused.{InRow, ReadAs, good, bad-2, bad-3, bad-4, bad-5}
 use Rattle.record.proofs.Exact.{read-as}
 use Rattle.record.proofs.BytesBack.{four, kind-below, order-of-row}
 use Rattle.table.specs.Events.{eventsOf}

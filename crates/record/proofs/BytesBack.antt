@@ -16,8 +16,9 @@ use Rattle.events.specs.Words.{codeOf}
 use Rattle.laws.specs.Says.{Says}
 use Rattle.record.specs.declared.written.Columns.{Columns}
 use Rattle.record.specs.Form.{pick, byteAt, kindByte, orderByte, threadByte, parentByte, sourceByte, locationByte, flagsByte, readsKind, writesKind, readU, writtenU, rows, inRow, orderFrom, linkFrom, linkByte, word, valueFrom, eventFrom, readFrom, writtenFrom, recordFrom, numberOf, flagsOf, columnsOf, bytesBy, encode}
-use Rattle.record.specs.Rows.{Marked, InRow, Rested}
+use Rattle.record.specs.Refused.{Marked, InRow, Rested}
 use Rattle.record.proofs.Exact.{read-u, written-u}
+use Rattle.record.proofs.Parts.{Whole}
 
 -- ---- kinds and orders
 
@@ -145,17 +146,15 @@ listed b zero i h = drop-of-length-le b {i = i} (omega arith)
 listed b (suc n) i h =
     drop-cons b i 0 (omega arith) ∙ ap (λ (t : List ℕ). getD b i 0 ∷ t) (listed b n (suc i) (omega arith))
 
--- only the low bytes of the two values have to be bytes
-pub same-bytes :
-    (b : List ℕ) → byteAt b 10 < 256 → byteAt b 12 < 256 → Marked b → InRow b → Rested b → encode (recordFrom b) ≡ firsts b 0 16
+each-byte : (b : List ℕ) → Whole b → Marked b → InRow b → Rested b → encode (recordFrom b) ≡ firsts b 0 16
 unfolding encode
-same-bytes b low-read low-written mark row rest =
+each-byte b whole mark row rest =
     let k = kindByte b in
     let o = orderByte b in
     let f = flagsByte b in
     let columns = columns-by (orderFrom o) (locationByte b) (readFrom b) (writtenFrom b) k (kind-below k o row) in
-    let read = value-bytes (readsKind k) (readU f) (read-u b) (byteAt b 10) (byteAt b 11) low-read (rest .read-low) (rest .read-high) in
-    let written = value-bytes (writesKind k) (writtenU f) (written-u b) (byteAt b 12) (byteAt b 13) low-written (rest .written-low) (rest .written-high) in
+    let read = value-bytes (readsKind k) (readU f) (read-u b) (byteAt b 10) (byteAt b 11) (whole .low-read) (rest .read-low) (rest .read-high) in
+    let written = value-bytes (writesKind k) (writtenU f) (written-u b) (byteAt b 12) (byteAt b 13) (whole .low-written) (rest .written-low) (rest .written-high) in
     let small : f < 4 = omega (arith, rest .flags) in
     ap (bytesBy (threadByte b) (linkFrom (parentByte b)) (linkFrom (sourceByte b))) columns
     ∙ simp (
@@ -177,3 +176,6 @@ same-bytes b low-read low-written mark row rest =
       rest .fourteen,
       rest .fifteen,
     )
+
+pub same-bytes : (b : List ℕ) → Whole b → Marked b → InRow b → Rested b → encode (recordFrom b) ≡ b
+same-bytes b whole mark row rest = each-byte b whole mark row rest ∙ sym (listed b 16 0 (whole .long))

@@ -7,7 +7,7 @@ use lib.Dec.{eqb}
 use Rattle.laws.specs.Says.{Says}
 use Rattle.laws.proofs.Says.{says-T, says-eq, says-le, says-not, says-and, says-if, says-iff}
 use Rattle.record.specs.Form.{byteAt, kindByte, orderByte, threadByte, sourceByte, locationByte, flagsByte, readsKind, writesKind, readU, writtenU, marked, inRow, rested, inRange, recordFrom, decidedBy, decode}
-use Rattle.record.specs.Rows.{Marked, InRow, Reads, Writes, ReadU, WrittenU, Rested, InRange, ReadAs, good, bad-2, bad-3, bad-4, bad-5}
+use Rattle.record.specs.Refused.{Marked, InRow, Reads, Writes, ReadU, WrittenU, Rested, InRange, ReadAs, good, bad-2, bad-3, bad-4, bad-5}
 
 -- a test for "unless P, Q"
 says-unless : {a b : Bool} {P Q : Type 0} → Says a P → Says b Q → Says (a || b) (¬ P → Q)

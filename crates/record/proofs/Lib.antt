@@ -1,6 +1,6 @@
 -- What is proved of the sixteen bytes of a record.
+pub mod Parts
 pub mod Exact
 pub mod RecordBack
 pub mod BytesBack
 pub mod RoundTrip
-pub mod Parts

@@ -5,7 +5,6 @@ use mathlib.Core.List.{List}
 use Prim.Native.Nat.{ℕ, _<_, _≤_}
 use native.Mathlib.Omega.{arith}
 use lib.Dec.{T, eqb, eqb→eq}
-use lib.ListN.{length}
 use borrow.Author.Tests.{eqb-false}
 use Rattle.events.specs.declared.Order.{Order}
 use Rattle.events.specs.declared.Value.{Value}
@@ -16,10 +15,11 @@ use Rattle.events.specs.Words.{codeOf, isRead}
 use Rattle.record.specs.declared.written.Columns.{Columns}
 use Rattle.record.specs.declared.Decoded.the-variants.{Good}
 use Rattle.record.specs.Form.{pick, byteAt, kindByte, orderByte, parentByte, sourceByte, locationByte, flagsByte, readsKind, writesKind, readU, writtenU, inRow, orderFrom, linkFrom, valueFrom, eventFrom, word, readFrom, writtenFrom, recordFrom, decode, numberOf, columnsOf, encode}
-use Rattle.record.specs.Rows.{Marked, InRow, Rested, InRange, ReadAs, good}
+use Rattle.record.specs.Refused.{Marked, InRow, Rested, InRange, ReadAs, good}
 use Rattle.record.specs.Fits.{Bytes, Fits}
 use Rattle.record.proofs.Exact.{read-as}
-use Rattle.record.proofs.BytesBack.{kind-below, columnsBy, columns-by, order-of-row, rests, four, listed, same-bytes}
+use Rattle.record.proofs.BytesBack.{kind-below, columnsBy, columns-by, order-of-row, rests, four, same-bytes}
+use Rattle.record.proofs.Parts.{Whole}
 pub use Rattle.record.proofs.RecordBack.{decode-encode}
 
 -- what is read as a record passed the four tests, and is the record of its fields
@@ -122,12 +122,8 @@ decode-fits b r bytes e =
     let q = passed b r e in
     subst Fits (q .same) (fits-from b (q .row) (q .rested) bytes (q .in-range))
 
--- only the low bytes of the two values have to be bytes
-pub encode-decode-low : (b : List ℕ) (r : Record) → byteAt b 10 < 256 → byteAt b 12 < 256 → length b ≡ 16 → decode b ≡ Good r → encode r ≡ b
-encode-decode-low b r low-read low-written long e =
-    let q = passed b r e in
-    ap encode (sym (q .same)) ∙ same-bytes b low-read low-written (q .marked) (q .row) (q .rested) ∙ sym (listed b 16 0 long)
-
 -- "bytes that are read, written back, are the same bytes"
-pub encode-decode : (b : List ℕ) (r : Record) → Bytes b → length b ≡ 16 → decode b ≡ Good r → encode r ≡ b
-encode-decode b r bytes = encode-decode-low b r (bytes .below 10) (bytes .below 12)
+pub encode-decode : (b : List ℕ) (r : Record) → Whole b → decode b ≡ Good r → encode r ≡ b
+encode-decode b r whole e =
+    let q = passed b r e in
+    ap encode (sym (q .same)) ∙ same-bytes b whole (q .marked) (q .row) (q .rested)

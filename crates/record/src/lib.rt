@@ -72,11 +72,3 @@ pub fn write_at(table: &mut [u8], n: usize, r: Record)
     let start = SIZE * n;
     bytes::copy(&new, &mut table[start..start + SIZE]);
 }
-
-// What a record is "as if its bytes were read".
-pub fn decode_of(r: Record) -> Decoded
-    ensures { λ d. ⌜ d ≡ decode (encode r) ⌝ }
-{
-    let a = bytes_of(r);
-    read_part(&a)
-}

@@ -16,26 +16,6 @@ faultNumber Parent = 6
 faultNumber Source = 7
 faultNumber Twin = 8
 
--- all its rows
-abbrev pub numberOf : Refusal → ℕ
-numberOf refusal.Length = 1
-numberOf (refusal.Record f n) = faultNumber f
-numberOf refusal.Selection = 9
-numberOf (refusal.Incomplete n) = 10
-numberOf refusal.Room = 11
-numberOf refusal.Full = 12
-numberOf (refusal.Past n) = 13
-
--- "Its place is the record number; for 1, 9, 11, 12 it is 0, for 10 the least such kept record, for 13 the number asked for."
-abbrev pub placeOf : Refusal → ℕ
-placeOf refusal.Length = 0
-placeOf (refusal.Record f n) = n
-placeOf refusal.Selection = 0
-placeOf (refusal.Incomplete n) = n
-placeOf refusal.Room = 0
-placeOf refusal.Full = 0
-placeOf (refusal.Past n) = n
-
 -- number and place as one value: "refused 6 at 3"
 abbrev pub at : ℕ → ℕ → Told
 at number place = record { number = number; place = place }

@@ -1,6 +1,6 @@
 // Why an operation is refused: document 01's refusals 1 to 13, each with its number and its place.
 ghost use mathlib.Core.Path.{_≡_};
-ghost use Rattle.refusals.specs.Numbers.{faultNumber, numberOf, placeOf, told};
+ghost use Rattle.refusals.specs.Numbers.{at, faultNumber, told};
 
 // What is wrong with a record: refusals 2 to 8.
 pub enum Fault {
@@ -31,7 +31,7 @@ pub struct Told {
 }
 
 impl Fault {
-    pub fn number(self) -> usize
+    fn number(self) -> usize
         ensures { λ r. ⌜ r ≡ faultNumber self ⌝ }
     {
         match self {
@@ -46,70 +46,27 @@ impl Fault {
     }
 }
 
-impl Refusal {
-    pub fn number(self) -> usize
-        ensures { λ r. ⌜ r ≡ numberOf self ⌝ }
+impl Told {
+    fn at(number: usize, place: usize) -> Told
+        ensures { λ r. ⌜ r ≡ at number place ⌝ }
     {
-        match self {
-            Refusal::Length => 1,
-            Refusal::Record(f, _) => f.number(),
-            Refusal::Selection => 9,
-            Refusal::Incomplete(_) => 10,
-            Refusal::Room => 11,
-            Refusal::Full => 12,
-            Refusal::Past(_) => 13,
-        }
+        Told { number, place }
     }
+}
 
-    pub fn place(self) -> usize
-        ensures { λ r. ⌜ r ≡ placeOf self ⌝ }
-    {
-        match self {
-            Refusal::Length => 0,
-            Refusal::Record(_, n) => n,
-            Refusal::Selection => 0,
-            Refusal::Incomplete(n) => n,
-            Refusal::Room => 0,
-            Refusal::Full => 0,
-            Refusal::Past(n) => n,
-        }
-    }
+impl Refusal {
     // The number and the place of each.
     pub fn told(self) -> Told
         ensures { λ r. ⌜ r ≡ told self ⌝ }
     {
         match self {
-            Refusal::Length => Told {
-                number: 1,
-                place: 0,
-            },
-            Refusal::Record(f, n) => {
-                let number = f.number();
-                Told {
-                    number: number,
-                    place: n,
-                }
-            }
-            Refusal::Selection => Told {
-                number: 9,
-                place: 0,
-            },
-            Refusal::Incomplete(n) => Told {
-                number: 10,
-                place: n,
-            },
-            Refusal::Room => Told {
-                number: 11,
-                place: 0,
-            },
-            Refusal::Full => Told {
-                number: 12,
-                place: 0,
-            },
-            Refusal::Past(n) => Told {
-                number: 13,
-                place: n,
-            },
+            Refusal::Length => Told::at(1, 0),
+            Refusal::Record(f, n) => Told::at(f.number(), n),
+            Refusal::Selection => Told::at(9, 0),
+            Refusal::Incomplete(n) => Told::at(10, n),
+            Refusal::Room => Told::at(11, 0),
+            Refusal::Full => Told::at(12, 0),
+            Refusal::Past(n) => Told::at(13, n),
         }
     }
 }

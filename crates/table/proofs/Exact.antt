@@ -2,19 +2,17 @@
 use mathlib.Core.Path.{_≡_, refl, sym, subst, ap, _∙_}
 use mathlib.Core.Bool.{Bool, true, false}
 use mathlib.Core.List.{List}
-use Prim.Native.Nat.{ℕ, _+_, _*_, _<_, _≤_}
+use Prim.Native.Nat.{ℕ, _<_, _≤_}
 use native.Mathlib.Omega.{arith}
 use native.Mathlib.Decide.{decLt}
-use lib.ListN.{length}
 use Rattle.laws.specs.Says.{Says}
 use Rattle.events.specs.declared.Record.{Record}
 use Rattle.refusals.specs.declared.Fault.{Fault}
 use Rattle.record.specs.declared.Decoded.{Decoded}
 use Rattle.record.specs.declared.Decoded.the-variants.{Good, Bad}
-use Rattle.record.specs.Form.{byteAt, decode, encode, part}
-use Rattle.record.specs.Fits.{Bytes}
-use Rattle.record.proofs.RoundTrip.{proper, encode-decode-low}
-use Rattle.record.proofs.Parts.{part-length, bytes-part}
+use Rattle.record.specs.Form.{decode, encode, part}
+use Rattle.record.proofs.RoundTrip.{proper, encode-decode}
+use Rattle.record.proofs.Parts.{Whole}
 use Rattle.model.specs.WellFormed.{Refused6, Refused7, Refused8}
 use Rattle.table.specs.declared.Checked.the-variants.{Fine, Faulty}
 use Rattle.table.specs.Events.{recordOf, eventsOf}
@@ -37,19 +35,6 @@ passes-of (passes p) = p
 pub fault-of : {b : List ℕ} {n : ℕ} {f : Fault} → CheckAnswer b n (Faulty f) → FaultAt b n f
 fault-of (faulty x) = x
 
--- sixteen numbers whose values can be written back
-pub record Whole (p : List ℕ) : Type 0 where
-  pub long : length p ≡ 16
-  pub low-read : byteAt p 10 < 256
-  pub low-written : byteAt p 12 < 256
-
-pub whole-part : (b : List ℕ) (n : ℕ) → Bytes b → 16 * n + 16 ≤ length b → Whole (part b n)
-whole-part b n bytes h = record {
-  long = part-length b n h;
-  low-read = bytes-part b n bytes .below 10;
-  low-written = bytes-part b n bytes .below 12;
-}
-
 judged-exact :
     (b : List ℕ) (n : ℕ) (p s w : Bool) → Says p (Refused6 (eventsOf b) n) → Says s (Refused7 (eventsOf b) n) → Says w (Refused8 (eventsOf b) n) → Decodes b n → CheckAnswer b n (judged p s w)
 unfolding judged
@@ -68,9 +53,7 @@ module _
     (decodes : (m : ℕ) → m < n → Decodes b′ m)
   where
     written-back : (m : ℕ) → m ≤ n → Decodes b′ m → encode (eventsOf b′ .at m) ≡ part b′ m
-    written-back m h d =
-        let w = whole m h in
-        encode-decode-low (part b′ m) (eventsOf b′ .at m) (w .low-read) (w .low-written) (w .long) (decoded-at b′ m d)
+    written-back m h d = encode-decode (part b′ m) (eventsOf b′ .at m) (whole m h) (decoded-at b′ m d)
 
     module _ (self : Decodes b′ n) where
       up-to : (m : ℕ) → m ≤ n → Decodes b′ m

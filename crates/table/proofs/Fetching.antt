@@ -1,5 +1,5 @@
 -- The two questions of a fetch agree, and each has one answer.
-use mathlib.Core.Path.{_≡_, refl, sym, ap, _∙_}
+use mathlib.Core.Path.{_≡_, refl, sym, ap}
 use mathlib.Core.Bool.{Bool, true, false, _&&_}
 use mathlib.Core.List.{List, []}
 use Prim.Native.Nat.{ℕ, _<_}
@@ -8,13 +8,13 @@ use lib.Dec.{T, ltb}
 use lib.ListN.{length}
 use borrow.Author.Tests.{lt-ltb, le-ltb}
 use Rattle.refusals.specs.declared.Refusal.{Refusal}
+use Rattle.refusals.proofs.Known.{same-refusal}
 use Rattle.record.specs.Form.{pick, part}
-use Rattle.table.specs.declared.Asked.{Asked}
-use Rattle.table.specs.declared.Asked.the-variants.{Given, Refused}
+use Rattle.table.specs.declared.FetchTest.{FetchTest}
+use Rattle.table.specs.declared.FetchTest.the-variants.{Given, Refused}
 use Rattle.table.specs.Events.{countOf}
 use Rattle.table.specs.Test.{lengthOk}
 use Rattle.table.specs.Fetched.{fetched, FetchAnswer, given, refused-1, refused-13}
-use Rattle.table.proofs.Unique.{refusal-one}
 
 both : {A : Type 0} (a b : Bool) (x y : A) → T a → b ≡ true → pick (a && b) x y ≡ x
 both true b x y h e = rw e
@@ -35,20 +35,20 @@ module _ {b : List ℕ} {n : ℕ} where
 
   pub fetched-refused : {r : Refusal} → FetchAnswer b n (Refused r) → [] ≡ fetched b n
   unfolding fetched
-  fetched-refused (refused-1 wrong _ _) = sym (first-fails (lengthOk (length b)) (ltb n (countOf b)) (part b n) [] wrong)
-  fetched-refused (refused-13 _ past _ _) =
+  fetched-refused (refused-1 wrong _) = sym (first-fails (lengthOk (length b)) (ltb n (countOf b)) (part b n) [] wrong)
+  fetched-refused (refused-13 _ past _) =
       sym (second-fails (lengthOk (length b)) (ltb n (countOf b)) (part b n) [] (le-ltb n (countOf b) past))
 
   pub given-below : FetchAnswer b n Given → n < countOf b
   given-below (given _ h) = h
 
-  pub fetch-one : {x y : Asked} → FetchAnswer b n x → FetchAnswer b n y → x ≡ y
+  pub fetch-one : {x y : FetchTest} → FetchAnswer b n x → FetchAnswer b n y → x ≡ y
   fetch-one (given _ _) (given _ _) = refl
-  fetch-one (given ok _) (refused-1 wrong _ _) = absurd (wrong ok)
-  fetch-one (given _ h) (refused-13 _ past _ _) = absurd (omega arith)
-  fetch-one (refused-1 wrong _ _) (given ok _) = absurd (wrong ok)
-  fetch-one (refused-1 {r = r} _ k p) (refused-1 {r = s} _ l q) = ap Refused (refusal-one r s (k ∙ sym l) (p ∙ sym q))
-  fetch-one (refused-1 wrong _ _) (refused-13 ok _ _ _) = absurd (wrong ok)
-  fetch-one (refused-13 _ past _ _) (given _ h) = absurd (omega arith)
-  fetch-one (refused-13 ok _ _ _) (refused-1 wrong _ _) = absurd (wrong ok)
-  fetch-one (refused-13 {r = r} _ _ k p) (refused-13 {r = s} _ _ l q) = ap Refused (refusal-one r s (k ∙ sym l) (p ∙ sym q))
+  fetch-one (given ok _) (refused-1 wrong _) = absurd (wrong ok)
+  fetch-one (given _ h) (refused-13 _ past _) = absurd (omega arith)
+  fetch-one (refused-1 wrong _) (given ok _) = absurd (wrong ok)
+  fetch-one (refused-1 _ e) (refused-1 _ h) = ap Refused (same-refusal e h)
+  fetch-one (refused-1 wrong _) (refused-13 ok _ _) = absurd (wrong ok)
+  fetch-one (refused-13 _ past _) (given _ h) = absurd (omega arith)
+  fetch-one (refused-13 ok _ _) (refused-1 wrong _) = absurd (wrong ok)
+  fetch-one (refused-13 _ _ e) (refused-13 _ _ h) = ap Refused (same-refusal e h)

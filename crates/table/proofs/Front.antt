@@ -9,12 +9,13 @@ use lib.Seq.{length-take-le, take-all}
 use Rattle.laws.proofs.Says.{says-eq, says-le, says-not, says-and}
 use Rattle.record.specs.Form.{part}
 use Rattle.record.specs.Fits.{Bytes}
-use Rattle.record.proofs.Parts.{part-take, bytes-take}
+use Rattle.record.proofs.Parts.{part-take, bytes-take, whole-part}
 use Rattle.table.specs.Events.{countOf}
 use Rattle.limits.specs.Limit.{limit}
-use Rattle.table.specs.Test.{lengthOk, Passes, CheckAnswer}
+use Rattle.table.specs.declared.Tested.{Tested}
+use Rattle.table.specs.Test.{lengthOk, Passes, CheckAnswer, RecordsAnswer, TestAnswer, records}
 use Rattle.table.specs.Computed.{checkedPart}
-use Rattle.table.proofs.Exact.{whole-part, check-exact}
+use Rattle.table.proofs.Exact.{check-exact}
 
 module _ (b : List ℕ) (count : ℕ) (held : 16 * count ≤ length b) where
   front-length : length (take (16 * count) b) ≡ 16 * count
@@ -54,3 +55,7 @@ pub front-whole : (b : List ℕ) → T (lengthOk (length b)) → take (16 * coun
 front-whole b h =
     let right = right-length (length b) h in
     take-all (16 * countOf b) b (omega arith)
+
+-- so the test of all its records is the test of the table
+pub records-test : (b : List ℕ) {a : Tested} → T (lengthOk (length b)) → RecordsAnswer (take (16 * countOf b) b) a → TestAnswer b a
+records-test b right x = records right (rw (front-whole b right) at x)

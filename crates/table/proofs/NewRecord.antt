@@ -9,17 +9,13 @@ use lib.Seq.{length-take-le}
 use Rattle.events.specs.declared.Record.{Record}
 use Rattle.record.specs.Form.{encode, part}
 use Rattle.record.specs.Fits.{Bytes}
-use Rattle.record.proofs.Parts.{encode-length, part-append, part-last, bytes-take}
+use Rattle.record.proofs.Parts.{Whole, whole-part, encode-whole, encode-length, part-append, part-last, bytes-take}
 use Rattle.table.specs.declared.Tested.the-variants.{Sound}
 use Rattle.table.specs.Events.{countOf}
 use Rattle.table.specs.Test.{Passes, CheckAnswer, RecordsAnswer, sound}
 use Rattle.table.specs.Computed.{checkedNew}
-use Rattle.table.proofs.Exact.{Whole, whole-part, check-exact, passes-alike}
+use Rattle.table.proofs.Exact.{check-exact, passes-alike}
 use Rattle.table.proofs.Front.{front-part}
-
-encode-whole : (r : Record) → Whole (encode r)
-unfolding encode
-encode-whole r = record { long = encode-length r; low-read = omega arith; low-written = omega arith }
 
 module _ (b : List ℕ) (n : ℕ) (r : Record) (held : 16 * n ≤ length b) where
   abbrev front : List ℕ

@@ -12,7 +12,7 @@ use Rattle.record.specs.declared.Decoded.the-variants.{Good}
 use Rattle.record.specs.Form.{decode, encode, part}
 use Rattle.record.specs.Fits.{Bytes, Fits}
 use Rattle.record.proofs.RoundTrip.{decode-encode, encode-decode}
-use Rattle.record.proofs.Parts.{encode-length, part-length, part-append, part-last, bytes-part, front-more}
+use Rattle.record.proofs.Parts.{encode-length, part-append, part-last, whole-part, front-more}
 use Rattle.model.specs.Table.{Table, Ends, Inside}
 use Rattle.model.specs.WellFormed.{WellFormed, Sound as Model·Sound}
 use Rattle.table.specs.declared.Tested.the-variants.{Sound}
@@ -96,7 +96,7 @@ unfolding written
 read-front b bytes each zero h = refl
 read-front b bytes each (suc k) h =
     let last =
-    encode-decode (part b k) (eventsOf b .at k) (bytes-part b k bytes) (part-length b k (omega arith)) (decoded-at b k (each k (omega arith) .decodes))
+    encode-decode (part b k) (eventsOf b .at k) (whole-part b k bytes (omega arith)) (decoded-at b k (each k (omega arith) .decodes))
     in
     ap₂ _++_ (read-front b bytes each k (omega arith)) last ∙ sym (front-more b k)
 

@@ -9,7 +9,8 @@ use Rattle.events.specs.declared.Record.{Record}
 use Rattle.refusals.specs.declared.Fault.{Fault}
 use Rattle.refusals.specs.declared.Fault.the-variants.{Parent, Source, Twin}
 use Rattle.refusals.specs.declared.Refusal.{Refusal}
-use Rattle.refusals.specs.Numbers.{faultNumber, numberOf, placeOf}
+use Rattle.refusals.specs.declared.Told.{Told}
+use Rattle.refusals.specs.Numbers.{at, faultNumber, told}
 use Rattle.limits.specs.Limit.{limit}
 use Rattle.record.specs.declared.Decoded.the-variants.{Good, Bad}
 use Rattle.record.specs.Form.{decode, part}
@@ -30,7 +31,7 @@ module _ (b : List ℕ) where
     pub value : Record
     pub read : decode (part b n) ≡ Good value
 
-  -- they are refused with one of 2 to 5 (`Rows` of crate `record` says when); or they are not, and 6, 7 or 8 is given:
+  -- they are refused with one of 2 to 5 (`Refused` of crate `record` says when); or they are not, and 6, 7 or 8 is given:
   -- "numbers 2 to 8 in order within one"
   pub data FaultAt (n : ℕ) : Fault → Type 0 where
     by-bytes : {f : Fault} → decode (part b n) ≡ Bad f → FaultAt n f
@@ -49,16 +50,16 @@ module _ (b : List ℕ) where
     passes : Passes n → CheckAnswer n checked.Fine
     faulty : {f : Fault} → FaultAt n f → CheckAnswer n (checked.Faulty f)
 
-  -- "Records are tested from 0 upward .. the first fault is the answer. Its place is the record number": number and place
-  pub data FirstFault : ℕ → ℕ → Type 0 where
-    first-fault : {n : ℕ} {f : Fault} → n < countOf b → ((m : ℕ) → m < n → Passes m) → FaultAt n f → FirstFault (faultNumber f) n
+  -- "Records are tested from 0 upward .. the first fault is the answer. Its place is the record number": what is told of it
+  pub data FirstFault : Told → Type 0 where
+    first-fault : {n : ℕ} {f : Fault} → n < countOf b → ((m : ℕ) → m < n → Passes m) → FaultAt n f → FirstFault (at (faultNumber f) n)
 
   -- the test of the records alone
   pub data RecordsAnswer : Tested → Type 0 where
-    refused : {r : Refusal} → FirstFault (numberOf r) (placeOf r) → RecordsAnswer (tested.Refused r)
+    refused : {r : Refusal} → FirstFault (told r) → RecordsAnswer (tested.Refused r)
     sound : ((n : ℕ) → n < countOf b → Passes n) → RecordsAnswer (tested.Sound (countOf b))
 
   -- the test of a table: 1 at 0, "then records"
   pub data TestAnswer : Tested → Type 0 where
-    wrong-length : {r : Refusal} → ¬ T (lengthOk (length b)) → numberOf r ≡ 1 → placeOf r ≡ 0 → TestAnswer (tested.Refused r)
+    wrong-length : {r : Refusal} → ¬ T (lengthOk (length b)) → told r ≡ at 1 0 → TestAnswer (tested.Refused r)
     records : {a : Tested} → T (lengthOk (length b)) → RecordsAnswer a → TestAnswer a

@@ -34,7 +34,7 @@ pub enum Tested {
 }
 
 // Whether a fetch is refused.
-pub enum Asked {
+pub enum FetchTest {
     Given,
     Refused(Refusal),
 }
@@ -102,7 +102,8 @@ pub fn test_records(table: &[u8], count: usize) -> Tested
     Tested::Sound(count)
 }
 
-fn length_ok(len: usize) -> bool
+// Whether so many bytes can be a table: refusal 1 is not given.
+pub fn length_ok(len: usize) -> bool
     ensures { λ r. ⌜ r ≡ lengthOk len ⌝ }
 {
     !(len == 0) & ((len % SIZE == 0) & (len <= SIZE * LIMIT))
@@ -143,17 +144,17 @@ pub fn record_at(table: &[u8], n: usize) -> Record
 }
 
 // Whether a fetch of record n is refused, by 1 or by 13.
-pub fn refusal_of_fetch(table: &[u8], n: usize) -> Asked
+pub fn refusal_of_fetch(table: &[u8], n: usize) -> FetchTest
     ensures { λ r. ⌜ FetchAnswer (now (table .entry)) n r ⌝ }
 {
     let len = table.len();
     if length_ok(len) {
         if n < len / SIZE {
-            return Asked::Given;
+            return FetchTest::Given;
         }
-        return Asked::Refused(Refusal::Past(n));
+        return FetchTest::Refused(Refusal::Past(n));
     }
-    Asked::Refused(Refusal::Length)
+    FetchTest::Refused(Refusal::Length)
 }
 
 // Record n's own sixteen bytes, or an empty part where the fetch is refused.
@@ -161,7 +162,7 @@ pub fn fetch(table: &[u8], n: usize) -> &[u8]
     ensures { λ r. ⌜ now r ≡ fetched (now (table .entry)) n ⌝ }
 {
     match refusal_of_fetch(table, n) {
-        Asked::Given => faults::part_at(table, n),
-        Asked::Refused(_) => &table[..0],
+        FetchTest::Given => faults::part_at(table, n),
+        FetchTest::Refused(_) => &table[..0],
     }
 }

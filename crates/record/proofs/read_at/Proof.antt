@@ -1,4 +1,4 @@
--- `record::read_at` meets its contract.
+-- `record::read_at` meets its contract: the part that is read is sixteen bytes.
 use mathlib.Core.Path.{ap, _∙_}
 use Prim.Native.Nat.{ℕ, _*_}
 use native.Mathlib.Nat.{add-sub-cancel-left}

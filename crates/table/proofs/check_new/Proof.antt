@@ -1,4 +1,4 @@
--- `table::check_new` meets its contract.
+-- `table::check_new` meets its contract: the bytes that are tested are the new record's, and their test is exact.
 use mathlib.Core.Path.{sym, subst, ap, _∙_}
 use mathlib.Core.List.{_++_}
 use Prim.Native.Nat.{_*_}

@@ -1,4 +1,4 @@
--- `table::check_record` meets its contract.
+-- `table::check_record` meets its contract: the part that is tested is the record.
 use mathlib.Core.Path.{ap, _∙_}
 use denote.Ref.{now}
 use Rattle.table.specs.Computed.{checkedPart}

@@ -1,4 +1,4 @@
--- `table::record_at` meets its contract.
+-- `table::record_at` meets its contract: by those of its two calls.
 use mathlib.Core.Path.{ap, _∙_}
 use Rattle.table.specs.Events.{recordOf, eventsOf}
 use borrow.Author.Needs.{needs}

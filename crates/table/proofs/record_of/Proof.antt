@@ -1,4 +1,4 @@
--- `table::record_of` meets its contract.
+-- `table::record_of` meets its contract: a row of the definition in each arm.
 use borrow.Author.Needs.{needs}
 use Rattle.table.proofs.record_of.Statement.{statement}
 use Rattle.table.proofs.record_of.Tie as tie

@@ -17,12 +17,12 @@ returns c =
 returns-2 : tie.Need-returns-2
 returns-2 c =
     let k = c .before .before in
-    refused-13 (said (says-T (lengthOk (length (now (k .before .before .args .table))))) (sym (k .length-ok .ensures) ∙ c .before .if1 .taken)) (c .if2 .left) refl refl
+    refused-13 (said (says-T (lengthOk (length (now (k .before .before .args .table))))) (sym (k .length-ok .ensures) ∙ c .before .if1 .taken)) (c .if2 .left) refl
 
 returns-3 : tie.Need-returns-3
 returns-3 c =
     let k = c .before in
-    refused-1 (denied (says-T (lengthOk (length (now (k .before .before .args .table))))) (sym (k .length-ok .ensures) ∙ c .if1 .left)) refl refl
+    refused-1 (denied (says-T (lengthOk (length (now (k .before .before .args .table))))) (sym (k .length-ok .ensures) ∙ c .if1 .left)) refl
 
 pub refusal-of-fetch-spec : {M : Type 1} → statement M
 refusal-of-fetch-spec = tie.close (tie.spec (search needs) returns returns-2 returns-3)

@@ -25,13 +25,16 @@ loop-holds c = (λ m h. absurd (omega arith), omega arith)
 
 -- the answer for record n
 checked :
-    (c : tie.After-check-record Inv-loop μ-loop) → CheckAnswer (take (16 * c .before .before .before .before .args .count) (now (c .before .before .before .before .args .table))) (c .before .before .loop .n) (c .check-record .result)
+    (c : tie.After-check-record Inv-loop μ-loop) →
+    let entry = c .before .before .before .before in
+    CheckAnswer (take (16 * entry .args .count) (now (entry .args .table))) (c .before .before .loop .n) (c .check-record .result)
 checked c =
     let l = c .before .before in
-    let a = l .before .before .args in
+    let entry = l .before .before in
+    let a = entry .args in
     let bytes : Bytes (now (a .table)) = record { below = λ i. omega (arith, l .before .shared-slice-known .given i) } in
     subst (CheckAnswer (take (16 * a .count) (now (a .table))) (l .loop .n)) (sym (c .check-record .ensures))
-    (front-exact (now (a .table)) (a .count) (l .before .before .pre) bytes (l .loop .n) (omega arith) (l .loop .inv .0))
+    (front-exact (now (a .table)) (a .count) (entry .pre) bytes (l .loop .n) (omega arith) (l .loop .inv .0))
 
 loop-again : tie.Need-loop-again Inv-loop μ-loop
 loop-again c =

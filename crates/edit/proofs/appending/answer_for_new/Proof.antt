@@ -11,7 +11,7 @@ use Rattle.edit.proofs.appending.answer_for_new.Statement.{statement}
 use Rattle.edit.proofs.appending.answer_for_new.Tie as tie
 
 returns : tie.Need-returns
-returns c = full (c .before .before .pre) (c .if1 .taken) refl refl
+returns c = full (c .before .before .pre) (c .if1 .taken) refl
 
 ready : (c : tie.After-check-new) → Ready (now (c .before .before .before .before .args .buffer)) (c .before .before .before .before .args .used)
 ready c = record {
@@ -32,11 +32,11 @@ returns-2 c = good (ready (c .before .before)) (passes-of (rw (c .enum-told .giv
 returns-3 : tie.Need-returns-3
 returns-3 c =
     let k = c .before .before .before in
-    bad-new (ready k) (fault-of (rw (c .before .f .given .1) at (checked k))) refl refl
+    bad-new (ready k) (fault-of (rw (c .before .f .given .1) at (checked k))) refl
 
 returns-4 : tie.Need-returns-4
 returns-4 c =
-    no-room (c .before .before .before .pre) (c .before .if1 .left) (λ h. absurd (omega (arith, c .if2 .left))) refl refl
+    no-room (c .before .before .before .pre) (c .before .if1 .left) (λ h. absurd (omega (arith, c .if2 .left))) refl
 
 pub answer-for-new-spec : {M : Type 1} → statement M
 answer-for-new-spec =

@@ -1,4 +1,4 @@
--- `appending::answer_in_use` meets its contract.
+-- `appending::answer_in_use` meets its contract: the refusal of the records in use, or the answer for the new one.
 use borrow.Author.Needs.{needs}
 use Rattle.edit.specs.Append.{bad-record}
 use Rattle.edit.proofs.NewRecord.{sound-use}

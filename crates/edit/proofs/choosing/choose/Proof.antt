@@ -1,4 +1,4 @@
--- `choosing::choose` meets its contract.
+-- `choosing::choose` meets its contract: a selection is refused if it is 0 or bits are left past the count.
 use borrow.Author.Needs.{needs}
 use Rattle.edit.proofs.Bits.{chosen}
 use Rattle.edit.proofs.choosing.choose.Statement.{statement}

@@ -1,4 +1,4 @@
--- `cutting::cut` meets its contract.
+-- `cutting::cut` meets its contract: the table's refusal, or the cut of a sound table.
 use mathlib.Core.Path.{refl}
 use borrow.Author.Needs.{needs}
 use Rattle.edit.specs.Cut.{bad-table}

@@ -1,4 +1,4 @@
--- `cutting::cut_by` meets its contract.
+-- `cutting::cut_by` meets its contract: the least record that lacks something is 10's place.
 use mathlib.Core.Path.{refl}
 use borrow.Author.Needs.{needs}
 use denote.Ref.{now}
@@ -23,7 +23,7 @@ returns c =
     let asked = c .before .before .before in
     let s = asked .before .before .before .before in
     record {
-      decided = lacking (s .pre .selected) (rw (c .before .n .given .1) at (asked .least-lacking .ensures)) refl refl;
+      decided = lacking (s .pre .selected) (rw (c .before .n .given .1) at (asked .least-lacking .ensures)) refl;
       bytes = refl;
     }
 

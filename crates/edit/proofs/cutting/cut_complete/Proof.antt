@@ -1,4 +1,4 @@
--- `cutting::cut_complete` meets its contract.
+-- `cutting::cut_complete` meets its contract: the new numbers fit their column, and the kept records the output or not.
 use native.Mathlib.Omega.{arith}
 use borrow.Author.Needs.{needs}
 use denote.Ref.{now}

@@ -20,7 +20,7 @@ returns : tie.Need-returns
 returns c =
     let chosen = c .before .before in
     let s = chosen .before .before .before .before in
-    record { decided = bad-selection (s .pre) (said (chosen .choose .ensures .refused) (c .if1 .taken)) refl refl; bytes = refl }
+    record { decided = bad-selection (s .pre) (said (chosen .choose .ensures .refused) (c .if1 .taken)) refl; bytes = refl }
 
 cut-by-requires : tie.Need-cut-by-requires
 cut-by-requires c κs =

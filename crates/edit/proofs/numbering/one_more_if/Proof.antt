@@ -1,4 +1,4 @@
--- `numbering::one_more_if` meets its contract.
+-- `numbering::one_more_if` meets its contract: by the test that led there.
 use borrow.Author.Needs.{needs}
 use borrow.Author.Tests.{eq-eqb, ne-eqb}
 use native.Mathlib.Omega.{arith}

@@ -1,4 +1,4 @@
--- `writing::relinked` meets its contract.
+-- `writing::relinked` meets its contract: by the test that led there.
 use borrow.Author.Tests.{eq-eqb, ne-eqb}
 use Rattle.edit.proofs.writing.relinked.Statement.{statement}
 use Rattle.edit.proofs.writing.relinked.Tie as tie

@@ -1,4 +1,4 @@
--- `writing::renumbered_bytes` meets its contract.
+-- `writing::renumbered_bytes` meets its contract: a copy, with the two links renumbered.
 use mathlib.Core.Path.{ap}
 use mathlib.Core.List.{List, append-nil}
 use Prim.Native.Nat.{ℕ}

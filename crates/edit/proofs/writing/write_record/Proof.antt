@@ -1,4 +1,4 @@
--- `writing::write_record` meets its contract.
+-- `writing::write_record` meets its contract: the renumbered bytes of the record, written at its new number.
 use mathlib.Core.Path.{ap, _∙_}
 use Prim.Native.Nat.{ℕ, _*_}
 use native.Mathlib.Nat.{add-sub-cancel-left}

@@ -1,4 +1,4 @@
--- `record::fields::link_from` meets its contract.
+-- `fields::link_from` meets its contract: by the test that led there.
 use borrow.Author.Tests.{eq-eqb, ne-eqb}
 use Rattle.record.specs.Form.{linkFrom}
 use Rattle.record.proofs.fields.link_from.Statement.{statement}

@@ -1,31 +1,14 @@
--- `record::fields::order_from` meets its contract.
+-- `fields::order_from` meets its contract: each arm by the key that led there, the last by none of them.
 use borrow.Author.Tests.{ne-eqb}
 use Rattle.record.specs.Form.{orderFrom}
 use Rattle.record.proofs.fields.order_from.Statement.{statement}
 use Rattle.record.proofs.fields.order_from.Tie as tie
 
-returns : tie.Need-returns
-unfolding orderFrom
-returns c = rw (c .match .keys1)
-
-returns-2 : tie.Need-returns-2
-unfolding orderFrom
-returns-2 c = rw (c .match .keys2)
-
-returns-3 : tie.Need-returns-3
-unfolding orderFrom
-returns-3 c = rw (c .match .keys3)
-
-returns-4 : tie.Need-returns-4
-unfolding orderFrom
-returns-4 c = rw (c .match .keys4)
-
-returns-5 : tie.Need-returns-5
-unfolding orderFrom
-returns-5 c =
-    let m = c .match .rest in
-    simp (ne-eqb _ _ (m .0 .0 .0 .1), ne-eqb _ _ (m .0 .0 .1), ne-eqb _ _ (m .0 .1), ne-eqb _ _ (m .1))
-
 pub order-from-spec : {M : Type 1} → statement M
+unfolding orderFrom
 order-from-spec =
-    tie.close (tie.spec returns returns-2 returns-3 returns-4 returns-5)
+    tie.close
+    (tie.spec (λ c. rw (c .match .keys1)) (λ c. rw (c .match .keys2)) (λ c. rw (c .match .keys3)) (λ c. rw (c .match .keys4))
+    (λ c.
+    let m = c .match .rest in
+    simp (ne-eqb _ _ (m .0 .0 .0 .1), ne-eqb _ _ (m .0 .0 .1), ne-eqb _ _ (m .0 .1), ne-eqb _ _ (m .1))))

@@ -1,4 +1,4 @@
--- `record::fields::record_from` meets its contract: by those of the fields.
+-- `fields::record_from` meets its contract: by those of the fields.
 use borrow.Author.Needs.{needs}
 use Rattle.record.proofs.fields.record_from.Statement.{statement}
 use Rattle.record.proofs.fields.record_from.Tie as tie

@@ -1,4 +1,4 @@
--- `record::fields::value_from` meets its contract.
+-- `fields::value_from` meets its contract: by the test that led there.
 use Rattle.record.specs.Form.{valueFrom}
 use Rattle.record.proofs.fields.value_from.Statement.{statement}
 use Rattle.record.proofs.fields.value_from.Tie as tie

@@ -1,4 +1,4 @@
--- `record::rules::in_row` meets its contract: past the table's four rows and five columns nothing is allowed.
+-- `rules::in_row` meets its contract: past the table's four rows and five columns nothing is allowed.
 use mathlib.Core.Path.{_≡_, refl}
 use mathlib.Core.List.{[]}
 use Prim.Native.Nat.{ℕ, zero, suc, _≤_}

@@ -1,4 +1,4 @@
--- `record::written::bytes_of` meets its contract: by those of the bytes.
+-- `written::bytes_of` meets its contract: by those of the bytes.
 use Rattle.record.specs.Form.{encode}
 use borrow.Author.Needs.{needs}
 use Rattle.record.proofs.written.bytes_of.Statement.{statement}

@@ -1,4 +1,4 @@
--- `record::written::columns_of` meets its contract.
+-- `written::columns_of` meets its contract: a row of the definition in each arm.
 use borrow.Author.Needs.{needs}
 use Rattle.record.proofs.written.columns_of.Statement.{statement}
 use Rattle.record.proofs.written.columns_of.Tie as tie

@@ -6,12 +6,11 @@ use Rattle.refusals.proofs.Refusal.told.Tie as tie
 pub told-spec : {M : Type 1} → statement M
 told-spec =
     tie.close
-    (tie.spec (λ c. search needs) (λ c. search needs) (λ c κs. search needs) (λ c. search needs) (λ c. search needs) (λ c. search needs) (λ c. search needs)
-    (λ c. search needs)
-    (λ c. rw (c .enum-told .given .1))
-    (λ c. rw (c .before .before .self .given .1, c .number .ensures))
-    (λ c. rw (c .enum-told2 .given .1))
-    (λ c. rw (c .before .self2 .given .1))
-    (λ c. rw (c .enum-told3 .given .1))
-    (λ c. rw (c .enum-told4 .given .1))
-    (λ c. rw (c .before .self3 .given .1)))
+    (tie.spec (search needs) (search needs) (search needs) (search needs) (search needs) (search needs) (search needs) (search needs) (search needs) (search needs) (search needs) (search needs) (search needs) (search needs) (search needs)
+    (λ c. rw (c .before .enum-told .given .1) (c .at .ensures))
+    (λ c. rw (c .before .before .before .self .given .1, ← c .before .number .ensures) (c .at2 .ensures))
+    (λ c. rw (c .before .enum-told2 .given .1) (c .at3 .ensures))
+    (λ c. rw (c .before .before .self2 .given .1) (c .at4 .ensures))
+    (λ c. rw (c .before .enum-told3 .given .1) (c .at5 .ensures))
+    (λ c. rw (c .before .enum-told4 .given .1) (c .at6 .ensures))
+    (λ c. rw (c .before .before .self3 .given .1) (c .at7 .ensures)))

@@ -1,4 +1,4 @@
--- `table::faults::parent_fault` meets its contract: each way out rewrites by the tests that led there.
+-- `faults::parent_fault` meets its contract: each way out rewrites by the tests that led there.
 use mathlib.Core.Path.{_≡_, sym, _∙_}
 use mathlib.Core.Bool.{true}
 use Prim.Native.Nat.{ℕ, _<_}
@@ -34,8 +34,8 @@ returns-2 c =
 thread-at-requires : tie.Need-thread-at-requires
 thread-at-requires c κs =
     let test = c .before .before .before in
-    let a = test .before .before .before .before .before .before .args in
-    omega (arith, c .wide .ensures, earlier-below (parentByte (now (a .new))) (a .n) (sym (test .before .is-earlier .ensures) ∙ test .if2 .taken))
+    let entry = test .before .before .before .before .before .before in
+    omega (arith, c .wide .ensures, earlier-below (parentByte (now (entry .args .new))) (entry .args .n) (sym (test .before .is-earlier .ensures) ∙ test .if2 .taken))
 
 returns-3 : tie.Need-returns-3
 unfolding parentFault

@@ -1,4 +1,4 @@
--- `table::faults::part_at` meets its contract.
+-- `faults::part_at` meets its contract: the part is sixteen bytes.
 use mathlib.Core.Path.{ap, _∙_}
 use Prim.Native.Nat.{ℕ, _*_}
 use native.Mathlib.Nat.{add-sub-cancel-left}

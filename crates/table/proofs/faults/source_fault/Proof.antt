@@ -1,4 +1,4 @@
--- `table::faults::source_fault` meets its contract: each way out rewrites by the tests that led there.
+-- `faults::source_fault` meets its contract: each way out rewrites by the tests that led there.
 use borrow.Author.Tests.{eq-eqb, ne-eqb, le-ltb, lt-ltb}
 use Rattle.table.specs.Computed.{sourceFault}
 use borrow.Author.Needs.{needs}

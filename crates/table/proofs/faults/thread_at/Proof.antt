@@ -1,4 +1,4 @@
--- `table::faults::thread_at` meets its contract.
+-- `faults::thread_at` meets its contract: the byte is read in the part that is the record.
 use mathlib.Core.Path.{ap}
 use Rattle.record.specs.Form.{threadByte}
 use borrow.Author.Needs.{needs}

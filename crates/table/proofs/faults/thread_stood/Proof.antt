@@ -1,4 +1,4 @@
--- `table::faults::thread_stood` meets its contract: what was found is what a search below m finds.
+-- `faults::thread_stood` meets its contract: what was found is what a search below m finds.
 use mathlib.Core.Path.{_≡_, refl, ap}
 use Prim.Native.Nat.{ℕ, _-_, _≤_}
 use native.Mathlib.Omega.{arith}

@@ -1,4 +1,4 @@
--- `table::faults::twin_fault` meets its contract: what was found is what a search below m finds.
+-- `faults::twin_fault` meets its contract: what was found is what a search below m finds.
 use mathlib.Core.Path.{_≡_, refl, ap, _∙_}
 use mathlib.Core.List.{List}
 use Prim.Native.Nat.{ℕ, _-_, _≤_}
@@ -30,7 +30,8 @@ loop-again c =
 returns : tie.Need-returns Inv-loop μ-loop
 returns c =
     let l = c .before .loop in
-    let e : l .m ≡ c .before .before .before .before .args .n = omega arith in
+    let entry = c .before .before .before .before in
+    let e : l .m ≡ entry .args .n = omega arith in
     rw (← e) (l .inv .0)
 
 pub twin-fault-spec : {M : Type 1} → statement M
