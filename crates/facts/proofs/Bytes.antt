@@ -1,11 +1,11 @@
 -- What the bytes of a record that decodes say of it.
-use mathlib.Core.Path.{_≡_, refl, sym, subst, ap, ap₂, _∙_}
+use mathlib.Core.Path.{_≡_, refl, sym, ap, ap₂, _∙_}
 use mathlib.Core.Bool.{Bool, true, false, not, _&&_, _||_}
-use mathlib.Core.Option.{Option, none, some}
+use mathlib.Core.Option.{none, some}
 use mathlib.Core.List.{List}
-use Prim.Native.Nat.{ℕ, zero, suc, _+_, _*_, _<_, _≤_}
+use Prim.Native.Nat.{ℕ, _+_, _*_, _<_, _≤_}
 use native.Mathlib.Omega.{arith}
-use lib.Dec.{T, eqb}
+use lib.Dec.{eqb}
 use lib.ListN.{length, getD}
 use lib.Seq.{getD-take, getD-drop}
 use Rattle.events.specs.declared.Order.{Order}
@@ -15,13 +15,13 @@ use Rattle.events.specs.declared.Event.{Event}
 use Rattle.events.specs.declared.Record.{Record}
 use Rattle.events.specs.Words.{isRead, isWrite, isNA, isSC, orderOf, locationOf, acquires, releases, codeOf, sameLocation, oneLocation}
 use Rattle.record.specs.declared.Decoded.{Decoded}
-use Rattle.record.specs.declared.Decoded.the-variants.{Good, Bad}
-use Rattle.record.specs.Form.{pick, byteAt, kindByte, orderByte, locationByte, inRow, orderFrom, eventFrom, readFrom, writtenFrom, recordFrom, decode, part}
+use Rattle.record.specs.declared.Decoded.the-variants.{Good}
+use Rattle.record.specs.Form.{pick, byteAt, kindByte, orderByte, locationByte, readsKind, writesKind, orderFrom, eventFrom, readFrom, writtenFrom, recordFrom, part}
 use Rattle.record.specs.Refused.{InRow, ReadAs, good, bad-2, bad-3, bad-4, bad-5}
 use Rattle.record.proofs.Exact.{read-as}
 use Rattle.record.proofs.BytesBack.{four, kind-below, order-of-row}
 use Rattle.table.specs.Events.{eventsOf}
-use Rattle.facts.specs.Sound.{SoundTable, Asked}
+use Rattle.facts.specs.Sound.{One}
 
 pub byte-of-part : (b : List ℕ) (n i : ℕ) → i < 16 → getD b (16 * n + i) 0 ≡ byteAt (part b n) i
 byte-of-part b n i h = sym (rw (getD-take, getD-drop))
@@ -38,12 +38,13 @@ read-good (bad-3 m w) e = absurd (let z : _≡_ {A = ℕ} 0 1 = cc in omega arit
 read-good (bad-4 m w s) e = absurd (let z : _≡_ {A = ℕ} 0 1 = cc in omega arith)
 read-good (bad-5 m w s g) e = absurd (let z : _≡_ {A = ℕ} 0 1 = cc in omega arith)
 
-pub asked-read : (b : List ℕ) (n : ℕ) → Asked b n → Read (part b n) (eventsOf b .at n)
-asked-read b n a = read-good (read-as (part b n)) (a .0 .decodes n (a .1))
+-- so are the bytes of a record of a sound table, and there is room for them
+module _ {b : List ℕ} {n : ℕ} (one : One b n) where
+  pub read-of : Read (part b n) (eventsOf b .at n)
+  read-of = read-good (read-as (part b n)) (one .sound .decodes n (one .inside))
 
--- there is room for the record's bytes
-pub asked-room : (b : List ℕ) (n : ℕ) → Asked b n → 16 * n + 16 ≤ length b
-asked-room b n a = omega (arith, a .0 .size, a .1)
+  pub room-of : 16 * n + 16 ≤ length b
+  room-of = omega (arith, one .sound .size, one .inside)
 
 -- ---- the event that a kind and its fields make
 
@@ -56,51 +57,13 @@ module _ (o : Order) (x : ℕ) (v w : Value) where
   unfolding eventFrom
   writes-by = four (λ (k : ℕ). (eqb k 2 || eqb k 3) ≡ isWrite (eventFrom k o x v w)) refl refl refl refl
 
-  order-by : (k : ℕ) → k < 4 → orderOf (eventFrom k o x v w) ≡ pick (eqb k 0) Na o
+  order-by : (k : ℕ) → k < 4 → pick (eqb k 0) Na o ≡ orderOf (eventFrom k o x v w)
   unfolding eventFrom
-  order-by = four (λ (k : ℕ). orderOf (eventFrom k o x v w) ≡ pick (eqb k 0) Na o) refl refl refl refl
+  order-by = four (λ (k : ℕ). pick (eqb k 0) Na o ≡ orderOf (eventFrom k o x v w)) refl refl refl refl
 
-  location-by : (k : ℕ) → k < 4 → locationOf (eventFrom k o x v w) ≡ pick (eqb k 0) none (some x)
+  location-by : (k : ℕ) → k < 4 → pick (eqb k 0) none (some x) ≡ locationOf (eventFrom k o x v w)
   unfolding eventFrom
-  location-by = four (λ (k : ℕ). locationOf (eventFrom k o x v w) ≡ pick (eqb k 0) none (some x)) refl refl refl refl
-
-module _ {p : List ℕ} {r : Record} (read : Read p r) where
-  abbrev event : Event
-  event = recordFrom p .event
-
-  kind : kindByte p < 4
-  kind = kind-below (kindByte p) (orderByte p) (read .row)
-
-  event-is : event ≡ r .event
-  event-is = ap (λ (x : Record). x .event) (read .is)
-
-  pub reads-told : (eqb (kindByte p) 1 || eqb (kindByte p) 3) ≡ isRead (r .event)
-  reads-told = reads-by (orderFrom (orderByte p)) (locationByte p) (readFrom p) (writtenFrom p) (kindByte p) kind ∙ ap isRead event-is
-
-  pub writes-told : (eqb (kindByte p) 2 || eqb (kindByte p) 3) ≡ isWrite (r .event)
-  writes-told = writes-by (orderFrom (orderByte p)) (locationByte p) (readFrom p) (writtenFrom p) (kindByte p) kind ∙ ap isWrite event-is
-
-  -- a test of the order by its code
-  pub order-told : (test : Order → Bool) (by-code : ℕ → Bool) → ((o : Order) → by-code (codeOf o) ≡ test o) → by-code (orderByte p) ≡ test (orderOf (r .event))
-  order-told test by-code same =
-      ap by-code (sym (order-of-row (kindByte p) (orderByte p) (read .row)))
-      ∙ same (pick (eqb (kindByte p) 0) Na (orderFrom (orderByte p)))
-      ∙ ap test (sym (order-by (orderFrom (orderByte p)) (locationByte p) (readFrom p) (writtenFrom p) (kindByte p) kind) ∙ ap orderOf event-is)
-
-  location-told : pick (eqb (kindByte p) 0) none (some (locationByte p)) ≡ locationOf (r .event)
-  location-told = sym (location-by (orderFrom (orderByte p)) (locationByte p) (readFrom p) (writtenFrom p) (kindByte p) kind) ∙ ap locationOf event-is
-
-located : (i j : Bool) (x y : ℕ) → ((not i && not j) && eqb x y) ≡ sameLocation (pick i none (some x)) (pick j none (some y))
-located true true x y = refl
-located true false x y = refl
-located false true x y = refl
-located false false x y = refl
-
-pub one-location-told :
-    {p q : List ℕ} {r s : Record} → Read p r → Read q s
-    → ((not (eqb (kindByte p) 0) && not (eqb (kindByte q) 0)) && eqb (locationByte p) (locationByte q)) ≡ oneLocation (r .event) (s .event)
-one-location-told {p} {q} a b =
-    located (eqb (kindByte p) 0) (eqb (kindByte q) 0) (locationByte p) (locationByte q) ∙ ap₂ sameLocation (location-told a) (location-told b)
+  location-by = four (λ (k : ℕ). pick (eqb k 0) none (some x) ≡ locationOf (eventFrom k o x v w)) refl refl refl refl
 
 -- ---- the orders by their codes
 
@@ -131,3 +94,55 @@ releases-by-code Acq = refl
 releases-by-code Rel = refl
 releases-by-code Ar = refl
 releases-by-code Sc = refl
+
+-- ---- what the bytes of a record of a sound table tell
+
+module _ {b : List ℕ} {n : ℕ} (one : One b n) where
+  abbrev bytes : List ℕ
+  bytes = part b n
+
+  pub field-told : {A : Type 0} (field : Record → A) → field (recordFrom bytes) ≡ field (eventsOf b .at n)
+  field-told field = ap field (read-of one .is)
+
+  -- a word on its event, by its kind
+  kind-told :
+      {A : Type 0} (word : Event → A) (by-kind : ℕ → A)
+      → ((k : ℕ) → k < 4 → by-kind k ≡ word (eventFrom k (orderFrom (orderByte bytes)) (locationByte bytes) (readFrom bytes) (writtenFrom bytes))) → {k : ℕ}
+      → k ≡ kindByte bytes → by-kind k ≡ word (eventsOf b .at n .event)
+  kind-told word by-kind same e =
+      ap by-kind e ∙ (same (kindByte bytes) (kind-below (kindByte bytes) (orderByte bytes) (read-of one .row)) ∙ field-told (λ r. word (r .event)))
+
+  pub reads-told : {k : ℕ} → k ≡ kindByte bytes → readsKind k ≡ isRead (eventsOf b .at n .event)
+  reads-told = kind-told isRead readsKind (reads-by (orderFrom (orderByte bytes)) (locationByte bytes) (readFrom bytes) (writtenFrom bytes))
+
+  pub writes-told : {k : ℕ} → k ≡ kindByte bytes → writesKind k ≡ isWrite (eventsOf b .at n .event)
+  writes-told = kind-told isWrite writesKind (writes-by (orderFrom (orderByte bytes)) (locationByte bytes) (readFrom bytes) (writtenFrom bytes))
+
+  location-told : pick (eqb (kindByte bytes) 0) none (some (locationByte bytes)) ≡ locationOf (eventsOf b .at n .event)
+  location-told =
+      kind-told locationOf (λ k. pick (eqb k 0) none (some (locationByte bytes)))
+      (location-by (orderFrom (orderByte bytes)) (locationByte bytes) (readFrom bytes) (writtenFrom bytes)) refl
+
+  -- a test of its order, by the order's code
+  pub order-told :
+      (test : Order → Bool) (by-code : ℕ → Bool) → ((o : Order) → by-code (codeOf o) ≡ test o) → {o : ℕ} → o ≡ orderByte bytes
+      → by-code o ≡ test (orderOf (eventsOf b .at n .event))
+  order-told test by-code same e =
+      ap by-code (e ∙ sym (order-of-row (kindByte bytes) (orderByte bytes) (read-of one .row)))
+      ∙ (same (pick (eqb (kindByte bytes) 0) Na (orderFrom (orderByte bytes)))
+      ∙ ap test
+      (kind-told orderOf (λ k. pick (eqb k 0) Na (orderFrom (orderByte bytes)))
+      (order-by (orderFrom (orderByte bytes)) (locationByte bytes) (readFrom bytes) (writtenFrom bytes)) refl))
+
+located : (i j : Bool) (x y : ℕ) → ((not i && not j) && eqb x y) ≡ sameLocation (pick i none (some x)) (pick j none (some y))
+located true true x y = refl
+located true false x y = refl
+located false true x y = refl
+located false false x y = refl
+
+pub one-location-told :
+    {b : List ℕ} {m n : ℕ} → One b m → One b n
+    → ((not (eqb (kindByte (part b m)) 0) && not (eqb (kindByte (part b n)) 0)) && eqb (locationByte (part b m)) (locationByte (part b n))) ≡ oneLocation (eventsOf b .at m .event) (eventsOf b .at n .event)
+one-location-told {b} {m} {n} one other =
+    located (eqb (kindByte (part b m)) 0) (eqb (kindByte (part b n)) 0) (locationByte (part b m)) (locationByte (part b n))
+    ∙ ap₂ sameLocation (location-told one) (location-told other)

@@ -1,3 +1,4 @@
--- What the bytes of a record that decodes say.
+-- What the reader promises of a table, and what the bytes of its records say.
 pub mod Bytes
 pub mod Promise
+pub mod Records

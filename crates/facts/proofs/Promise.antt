@@ -1,19 +1,15 @@
--- A table that the test lets pass is sound.
-use mathlib.Core.Path.{_≡_, sym, subst, ap, _∙_}
+-- A table that the test lets pass is sound, and has as many records as the test says.
+use mathlib.Core.Path.{sym}
 use mathlib.Core.List.{List}
-use Prim.Native.Nat.{ℕ, _*_, _/_, _%_, _<_, _≤_}
+use Prim.Native.Nat.{ℕ}
 use native.Mathlib.Omega.{arith}
 use lib.ListN.{length}
-use Rattle.record.specs.declared.Decoded.the-variants.{Good}
-use Rattle.record.specs.Form.{decode, part}
 use Rattle.table.specs.declared.Tested.the-variants as tested
-use Rattle.table.specs.Events.{countOf, eventsOf}
-use Rattle.limits.specs.Limit.{limit}
 use Rattle.table.specs.Test.{TestAnswer}
 use Rattle.table.proofs.Exact.{decoded-at}
 use Rattle.table.proofs.Front.{right-length}
 use Rattle.table.proofs.WellFormed.{test-pass, sound-well-formed, sound-count}
-use Rattle.facts.specs.Sound.{SoundTable}
+use Rattle.facts.specs.Sound.{SoundTable, Counted}
 
 pub sound-table : (b : List ℕ) (n : ℕ) → TestAnswer b (tested.Sound n) → SoundTable b
 sound-table b n x =
@@ -27,3 +23,6 @@ sound-table b n x =
       size = omega (arith, right .whole-records);
       decodes = λ m h. decoded-at b m (all .each m (omega arith) .decodes);
     }
+
+pub counted : (b : List ℕ) (n : ℕ) → TestAnswer b (tested.Sound n) → Counted b n
+counted b n x = record { sound = sound-table b n x; all = sym (sound-count b n x) }

@@ -1,4 +1,4 @@
--- What the reader promises of a table that it lets pass.
+-- What the reader promises of a table that it lets pass, and the records of such a table.
 use mathlib.Core.Path.{_≡_}
 use mathlib.Core.List.{List}
 use Prim.Native.Nat.{ℕ, _*_, _<_, _≤_}
@@ -16,10 +16,6 @@ pub record SoundTable (b : List ℕ) : Type 0 where
   pub few : eventsOf b .count ≤ limit
   pub size : 16 * eventsOf b .count ≡ length b
   pub decodes : (n : ℕ) → n < eventsOf b .count → decode (part b n) ≡ Good (eventsOf b .at n)
-
--- what may be asked of: a record of a sound table
-abbrev pub Asked : List ℕ → ℕ → Type 0
-Asked b n = SoundTable b × (n < eventsOf b .count)
 
 -- a is the number of one of its records
 pub record One (b : List ℕ) (a : ℕ) : Type 0 where

@@ -1,18 +1,16 @@
 // What the relations ask of one record of a sound table, read in place: no record is decoded again.
 ghost use mathlib.Core.Path.{_≡_};
-ghost use mathlib.Core.Bool.{Bool};
-ghost use Prim.Native.Nat.{ℕ, _+_, _*_, _<_, _≤_};
-ghost use lib.ListN.{length};
+ghost use Prim.Native.Nat.{_<_};
 ghost use Rattle.events.specs.Words.{isRead, isWrite, isNA, isSC, orderOf, acquires, releases, oneLocation};
 ghost use Rattle.record.specs.Form.{byteAt, part, linkFrom};
 ghost use Rattle.table.specs.Events.{eventsOf};
-ghost use Rattle.facts.specs.Sound.{SoundTable, Asked};
+ghost use Rattle.facts.specs.Sound.{One, Two};
 use events::Link;
 use events::Order;
 
 // Byte i of record n.
 fn byte(table: &[u8], n: usize, i: usize) -> u8
-    requires { ⌜ (16 * n + 16 ≤ length (now table)) × (i < 16) ⌝ }
+    requires { ⌜ One (now table) n × (i < 16) ⌝ }
     ensures { λ r. ⌜ r ≡ byteAt (part (now (table .entry)) n) i ⌝ }
 {
     table[16 * n + i]
@@ -30,7 +28,7 @@ fn link_of(byte: u8) -> Link
 
 // The parent of record n.
 pub fn parent(table: &[u8], n: usize) -> Link
-    requires { ⌜ Asked (now table) n ⌝ }
+    requires { ⌜ One (now table) n ⌝ }
     ensures { λ r. ⌜ r ≡ eventsOf (now (table .entry)) .at n .parent ⌝ }
 {
     link_of(byte(table, n, 5))
@@ -38,7 +36,7 @@ pub fn parent(table: &[u8], n: usize) -> Link
 
 // The source of record n.
 pub fn source(table: &[u8], n: usize) -> Link
-    requires { ⌜ Asked (now table) n ⌝ }
+    requires { ⌜ One (now table) n ⌝ }
     ensures { λ r. ⌜ r ≡ eventsOf (now (table .entry)) .at n .source ⌝ }
 {
     link_of(byte(table, n, 6))
@@ -46,7 +44,7 @@ pub fn source(table: &[u8], n: usize) -> Link
 
 // The thread of record n.
 pub fn thread(table: &[u8], n: usize) -> u8
-    requires { ⌜ Asked (now table) n ⌝ }
+    requires { ⌜ One (now table) n ⌝ }
     ensures { λ r. ⌜ r ≡ eventsOf (now (table .entry)) .at n .thread ⌝ }
 {
     byte(table, n, 4)
@@ -54,7 +52,7 @@ pub fn thread(table: &[u8], n: usize) -> u8
 
 // Whether record n reads: a load or an update.
 pub fn reads(table: &[u8], n: usize) -> bool
-    requires { ⌜ Asked (now table) n ⌝ }
+    requires { ⌜ One (now table) n ⌝ }
     ensures { λ r. ⌜ r ≡ isRead (eventsOf (now (table .entry)) .at n .event) ⌝ }
 {
     let kind = byte(table, n, 2);
@@ -63,7 +61,7 @@ pub fn reads(table: &[u8], n: usize) -> bool
 
 // Whether record n writes: a store or an update.
 pub fn writes(table: &[u8], n: usize) -> bool
-    requires { ⌜ Asked (now table) n ⌝ }
+    requires { ⌜ One (now table) n ⌝ }
     ensures { λ r. ⌜ r ≡ isWrite (eventsOf (now (table .entry)) .at n .event) ⌝ }
 {
     let kind = byte(table, n, 2);
@@ -72,7 +70,7 @@ pub fn writes(table: &[u8], n: usize) -> bool
 
 // Whether the order of record n is NA.
 pub fn not_atomic(table: &[u8], n: usize) -> bool
-    requires { ⌜ Asked (now table) n ⌝ }
+    requires { ⌜ One (now table) n ⌝ }
     ensures { λ r. ⌜ r ≡ isNA (orderOf (eventsOf (now (table .entry)) .at n .event)) ⌝ }
 {
     byte(table, n, 3) == Order::NA
@@ -80,7 +78,7 @@ pub fn not_atomic(table: &[u8], n: usize) -> bool
 
 // Whether the order of record n is SC.
 pub fn sequential(table: &[u8], n: usize) -> bool
-    requires { ⌜ Asked (now table) n ⌝ }
+    requires { ⌜ One (now table) n ⌝ }
     ensures { λ r. ⌜ r ≡ isSC (orderOf (eventsOf (now (table .entry)) .at n .event)) ⌝ }
 {
     byte(table, n, 3) == Order::SC
@@ -88,7 +86,7 @@ pub fn sequential(table: &[u8], n: usize) -> bool
 
 // Whether the order of record n acquires.
 pub fn acquiring(table: &[u8], n: usize) -> bool
-    requires { ⌜ Asked (now table) n ⌝ }
+    requires { ⌜ One (now table) n ⌝ }
     ensures { λ r. ⌜ r ≡ acquires (orderOf (eventsOf (now (table .entry)) .at n .event)) ⌝ }
 {
     let order = byte(table, n, 3);
@@ -97,7 +95,7 @@ pub fn acquiring(table: &[u8], n: usize) -> bool
 
 // Whether the order of record n releases.
 pub fn releasing(table: &[u8], n: usize) -> bool
-    requires { ⌜ Asked (now table) n ⌝ }
+    requires { ⌜ One (now table) n ⌝ }
     ensures { λ r. ⌜ r ≡ releases (orderOf (eventsOf (now (table .entry)) .at n .event)) ⌝ }
 {
     let order = byte(table, n, 3);
@@ -106,7 +104,7 @@ pub fn releasing(table: &[u8], n: usize) -> bool
 
 // Whether records a and b have one location; an Init has none.
 pub fn same_location(table: &[u8], a: usize, b: usize) -> bool
-    requires { ⌜ SoundTable (now table) × (a < eventsOf (now table) .count) × (b < eventsOf (now table) .count) ⌝ }
+    requires { ⌜ Two (now table) a b ⌝ }
     ensures { λ r. ⌜ r ≡ oneLocation (eventsOf (now (table .entry)) .at a .event) (eventsOf (now (table .entry)) .at b .event) ⌝ }
 {
     let located = !(byte(table, a, 2) == 0) & !(byte(table, b, 2) == 0);

@@ -1,24 +1,14 @@
--- `acquiring`: by the order's code.
-use mathlib.Core.Path.{_≡_, refl, sym, ap, _∙_}
-use mathlib.Core.Bool.{Bool, _||_}
-use Prim.Native.Nat.{ℕ}
-use native.Mathlib.Omega.{arith}
+-- `acquiring` meets its contract: the order's code tells it.
+use mathlib.Core.Bool.{_||_}
 use lib.Dec.{eqb}
 use Rattle.events.specs.Words.{acquires}
-use Rattle.facts.proofs.Bytes.{asked-read, asked-room, order-told, acquires-by-code}
+use Rattle.facts.proofs.Bytes.{order-told, acquires-by-code}
 use borrow.Author.Needs.{needs}
 use Rattle.facts.proofs.acquiring.Statement.{statement}
 use Rattle.facts.proofs.acquiring.Tie as tie
 
-byte-requires : tie.Need-byte-requires
-byte-requires c κs =
-    let s = c .before in
-    (asked-room (s .args .table .now) (s .args .n) (s .pre), omega arith)
-
 returns : tie.Need-returns
-returns c =
-    let s = c .before .before in
-    ap (λ (o : ℕ). eqb o 1 || (eqb o 3 || eqb o 4)) (c .byte .ensures) ∙ order-told (asked-read (s .args .table .now) (s .args .n) (s .pre)) acquires (λ o. eqb o 1 || (eqb o 3 || eqb o 4)) acquires-by-code
+returns c = order-told (c .before .before .pre) acquires (λ o. eqb o 1 || (eqb o 3 || eqb o 4)) acquires-by-code (c .byte .ensures)
 
 pub acquiring-spec : {M : Type 1} → statement M
-acquiring-spec = tie.close (tie.spec byte-requires returns)
+acquiring-spec = tie.close (tie.spec (λ c κs. search needs) returns)

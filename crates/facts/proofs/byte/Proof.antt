@@ -1,4 +1,4 @@
--- `byte`: the byte of the table is that of the record.
+-- `byte` meets its contract: the byte of the table is that of the record.
 use native.Mathlib.Omega.{arith}
 use Rattle.facts.proofs.Bytes.{byte-of-part}
 use borrow.Author.Needs.{needs}

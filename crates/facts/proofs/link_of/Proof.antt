@@ -1,10 +1,6 @@
--- `link_of`: 255 is none.
-use mathlib.Core.Path.{ap, sym}
-use mathlib.Core.Bool.{Bool}
+-- `link_of` meets its contract: 255 is none.
 use borrow.Author.Tests.{eq-eqb, ne-eqb}
-use Rattle.events.specs.declared.Link.the-variants.{Absent, To}
-use Rattle.record.specs.Form.{pick, linkFrom}
-use borrow.Author.Needs.{needs}
+use Rattle.record.specs.Form.{linkFrom}
 use Rattle.facts.proofs.link_of.Statement.{statement}
 use Rattle.facts.proofs.link_of.Tie as tie
 

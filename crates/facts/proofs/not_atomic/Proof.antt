@@ -1,24 +1,13 @@
--- `not_atomic`: by the order's code.
-use mathlib.Core.Path.{_≡_, refl, sym, ap, _∙_}
-use mathlib.Core.Bool.{Bool, _||_}
-use Prim.Native.Nat.{ℕ}
-use native.Mathlib.Omega.{arith}
+-- `not_atomic` meets its contract: the order's code tells it.
 use lib.Dec.{eqb}
 use Rattle.events.specs.Words.{isNA}
-use Rattle.facts.proofs.Bytes.{asked-read, asked-room, order-told, na-by-code}
+use Rattle.facts.proofs.Bytes.{order-told, na-by-code}
 use borrow.Author.Needs.{needs}
 use Rattle.facts.proofs.not_atomic.Statement.{statement}
 use Rattle.facts.proofs.not_atomic.Tie as tie
 
-byte-requires : tie.Need-byte-requires
-byte-requires c κs =
-    let s = c .before in
-    (asked-room (s .args .table .now) (s .args .n) (s .pre), omega arith)
-
 returns : tie.Need-returns
-returns c =
-    let s = c .before .before in
-    ap (λ (o : ℕ). eqb o 0) (c .byte .ensures) ∙ order-told (asked-read (s .args .table .now) (s .args .n) (s .pre)) isNA (λ o. eqb o 0) na-by-code
+returns c = order-told (c .before .before .pre) isNA (λ o. eqb o 0) na-by-code (c .byte .ensures)
 
 pub not-atomic-spec : {M : Type 1} → statement M
-not-atomic-spec = tie.close (tie.spec byte-requires returns)
+not-atomic-spec = tie.close (tie.spec (λ c κs. search needs) returns)

@@ -1,22 +1,14 @@
--- `parent`: the link that the byte is.
-use mathlib.Core.Path.{_≡_, ap, _∙_}
-use native.Mathlib.Omega.{arith}
+-- `parent` meets its contract: the link is the record's.
+use mathlib.Core.Path.{ap, _∙_}
 use Rattle.events.specs.declared.Record.{Record}
 use Rattle.record.specs.Form.{linkFrom}
-use Rattle.facts.proofs.Bytes.{asked-read, asked-room}
+use Rattle.facts.proofs.Bytes.{field-told}
 use borrow.Author.Needs.{needs}
 use Rattle.facts.proofs.parent.Statement.{statement}
 use Rattle.facts.proofs.parent.Tie as tie
 
-byte-requires : tie.Need-byte-requires
-byte-requires c κs =
-    let s = c .before in
-    (asked-room (s .args .table .now) (s .args .n) (s .pre), omega arith)
-
 returns : tie.Need-returns
-returns c =
-    let s = c .before .before .before in
-    c .link-of .ensures ∙ ap linkFrom (c .before .byte .ensures) ∙ ap (λ (r : Record). r .parent) ((asked-read (s .args .table .now) (s .args .n) (s .pre)) .is)
+returns c = c .link-of .ensures ∙ (ap linkFrom (c .before .byte .ensures) ∙ field-told (c .before .before .before .pre) (λ (r : Record). r .parent))
 
 pub parent-spec : {M : Type 1} → statement M
-parent-spec = tie.close (tie.spec byte-requires (λ c κs. search needs) returns)
+parent-spec = tie.close (tie.spec (λ c κs. search needs) (λ c κs. search needs) returns)

@@ -1,37 +1,27 @@
--- `same_location`: by the kinds and the location bytes.
-use mathlib.Core.Path.{_≡_, ap, _∙_}
+-- `same_location` meets its contract: the kinds and the location bytes tell it.
 use native.Mathlib.Omega.{arith}
-use Rattle.facts.proofs.Bytes.{asked-read, asked-room, one-location-told}
-use borrow.Author.Needs.{needs}
+use Rattle.facts.proofs.Bytes.{one-location-told}
+use Rattle.facts.proofs.Records.{first-of, second-of}
 use Rattle.facts.proofs.same_location.Statement.{statement}
 use Rattle.facts.proofs.same_location.Tie as tie
 
-byte-requires : tie.Need-byte-requires
-byte-requires c κs =
-    let s = c .before in
-    (asked-room (s .args .table .now) (s .args .a) (s .pre .0, s .pre .1), omega arith)
+first-requires : tie.Need-byte-requires
+first-requires c κs = (first-of (c .before .pre), omega arith)
 
-byte-requires-2 : tie.Need-byte-requires-2
-byte-requires-2 c κs =
-    let s = c .before .before in
-    (asked-room (s .args .table .now) (s .args .b) (s .pre .0, s .pre .2), omega arith)
+second-requires : tie.Need-byte-requires-2
+second-requires c κs = (second-of (c .before .before .pre), omega arith)
 
-byte-requires-3 : tie.Need-byte-requires-3
-byte-requires-3 c κs =
-    let s = c .before .before .before in
-    (asked-room (s .args .table .now) (s .args .a) (s .pre .0, s .pre .1), omega arith)
+first-requires-2 : tie.Need-byte-requires-3
+first-requires-2 c κs = (first-of (c .before .before .before .pre), omega arith)
 
-byte-requires-4 : tie.Need-byte-requires-4
-byte-requires-4 c κs =
-    let s = c .before .before .before .before in
-    (asked-room (s .args .table .now) (s .args .b) (s .pre .0, s .pre .2), omega arith)
+second-requires-2 : tie.Need-byte-requires-4
+second-requires-2 c κs = (second-of (c .before .before .before .before .pre), omega arith)
 
 returns : tie.Need-returns
 returns c =
-    let s = c .before .before .before .before .before in
-    simp (c .byte4 .ensures, c .before .byte3 .ensures, c .before .before .byte2 .ensures, c .before .before .before .byte .ensures)
-    (one-location-told (asked-read (s .args .table .now) (s .args .a) (s .pre .0, s .pre .1)) (asked-read (s .args .table .now) (s .args .b) (s .pre .0, s .pre .2)))
+    let kinds = c .before .before in
+    let two = kinds .before .before .before .pre in
+    simp (c .byte4 .ensures, c .before .byte3 .ensures, kinds .byte2 .ensures, kinds .before .byte .ensures) (one-location-told (first-of two) (second-of two))
 
 pub same-location-spec : {M : Type 1} → statement M
-same-location-spec =
-    tie.close (tie.spec byte-requires byte-requires-2 byte-requires-3 byte-requires-4 returns)
+same-location-spec = tie.close (tie.spec first-requires second-requires first-requires-2 second-requires-2 returns)

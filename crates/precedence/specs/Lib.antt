@@ -1,0 +1,3 @@
+-- What the makers of po, conflict and hb ask and promise.
+pub mod Links
+pub mod Upward

@@ -1,0 +1,6 @@
+// po, conflict and hb of a sound table, as matrices made row by row upward.
+mod before;
+mod conflict;
+mod links;
+mod tree;
+pub mod upward;
