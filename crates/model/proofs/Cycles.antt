@@ -15,7 +15,7 @@ use Rattle.laws.specs.Least.{Least, LeastNumber, LeastCycle}
 use Rattle.laws.specs.Tails.{LeastTail}
 use Rattle.laws.proofs.Says.{says-iff, says-and, says-any, any-of}
 use Rattle.laws.proofs.Steps.{Within}
-use Rattle.laws.proofs.Walks.{cycle-fits, last-step, chosen, least-cycle, walk-plus}
+use Rattle.laws.proofs.Walks.{cycle-fits, last-step, chosen, least-closed-walk, walk-plus}
 use Rattle.model.proofs.Rows.{Tells, Rows, rows, look, plus, rows-tell, plus-tells}
 use Rattle.model.proofs.Search.{firstBelow, first-least}
 
@@ -118,7 +118,7 @@ module _ {n : ℕ} {r : ℕ → ℕ → Bool} {R : ℕ → ℕ → Type 0} (s : 
 
   closed-least : (k : ℕ) → NoneShorter R k → (c : ℕ) → By R k c c → ((a : ℕ) → By R k a a → c ≤ a) → LeastCycle R (some (c ∷ tail n r c k c))
   closed-least k few c z first =
-      least-cycle R (tail-least c k c (by-inside z) z) (λ a m v. omega (arith, few a m v))
+      least-closed-walk R (tail-least c k c (by-inside z) z) (λ a m v. omega (arith, few a m v))
       (λ a m v q. first a (record { way = m; walk = v; long = omega arith }))
 
   -- n + 1 different records are too many

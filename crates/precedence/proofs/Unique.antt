@@ -4,7 +4,7 @@ use mathlib.Core.List.{List}
 use Prim.Native.Nat.{ℕ}
 use Rattle.model.specs.Table.{Table}
 use Rattle.matrix.specs.Matrix.{Made}
-use Rattle.matrix.proofs.Cells.{made-one}
+use Rattle.matrix.proofs.Unique.{made-one}
 use Rattle.precedence.specs.declared.upward.Upward.{Upward}
 use Rattle.precedence.specs.Upward.{relationOf}
 
