@@ -1,11 +1,11 @@
 -- One or more steps by stages (Warshall): stage k stops on the way only at numbers below k.
-use mathlib.Core.Path.{_≡_, refl, sym, subst}
-use mathlib.Core.Logic.{_⊎_, inl, inr, _↔_}
+use mathlib.Core.Path.{_≡_, subst}
+use mathlib.Core.Logic.{_⊎_, inl, inr}
 use Prim.Native.Nat.{ℕ, zero, suc, _<_, _≤_}
 use native.Mathlib.Nat.{not-suc-le-zero}
 use native.Mathlib.Omega.{arith}
-use native.Mathlib.Decide.{decLt, ℕ-discrete}
-use Rattle.laws.specs.Steps.{Rel, Plus, one, more}
+use native.Mathlib.Decide.{decLt}
+use Rattle.laws.specs.Steps.{Plus, one, more}
 use Rattle.laws.proofs.Steps.{Within}
 
 -- less, equal or greater

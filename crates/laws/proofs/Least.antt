@@ -1,13 +1,13 @@
 -- Least witnesses: there is one only, and it depends only on what shows the finding.
-use mathlib.Core.Path.{_≡_, refl, sym, ap, ap₂}
+use mathlib.Core.Path.{_≡_, refl, ap, ap₂}
 use mathlib.Core.Logic.{_⊎_, inl, inr}
-use mathlib.Core.Option.{Option, none, some}
+use mathlib.Core.Option.{Option, some}
 use mathlib.Core.List.{List, [], _∷_}
 use Prim.Native.Nat.{ℕ, _<_, _≤_}
 use native.Mathlib.Omega.{arith}
 use lib.ListN.{length}
-use Rattle.laws.specs.Steps.{Rel, Walk, IsCycle}
-use Rattle.laws.specs.Least.{Least, Pair, PairAtMost, by-first, by-second, ListAtMost, CycleAtMost, fewer, as-many, LeastNumber, LeastPair, LeastCycle}
+use Rattle.laws.specs.Steps.{Walk, IsCycle}
+use Rattle.laws.specs.Least.{Least, Pair, PairAtMost, by-first, by-second, ListAtMost, CycleAtMost, fewer, as-many, LeastNumber, LeastCycle}
 
 -- two least witnesses by an order in which two that are each at most the other are one
 pub least-one :
@@ -48,9 +48,6 @@ cycle-one c d (as-many e h) (as-many f k) = list-one c d e h k
 
 pub number-unique : {P : ℕ → Type 0} {x y : Option ℕ} → LeastNumber P x → LeastNumber P y → x ≡ y
 number-unique = least-one number-one
-
-pub pair-unique : (P : ℕ → ℕ → Type 0) {x y : Option Pair} → LeastPair P x → LeastPair P y → x ≡ y
-pair-unique P = least-one pair-one
 
 pub cycle-unique : {R : ℕ → ℕ → Type 0} {x y : Option (List ℕ)} → LeastCycle R x → LeastCycle R y → x ≡ y
 cycle-unique = least-one cycle-one

@@ -3,7 +3,7 @@ use mathlib.Core.Path.{_≡_, refl, sym, subst}
 use mathlib.Core.Logic.{_⊎_, inl, inr}
 use Prim.Native.Nat.{ℕ, _<_}
 use native.Mathlib.Omega.{arith}
-use Rattle.laws.specs.Steps.{Rel, Plus, one, more}
+use Rattle.laws.specs.Steps.{Plus, one, more}
 
 -- R relates numbers below n only
 pub record Within (n : ℕ) (R : ℕ → ℕ → Type 0) : Type 0 where

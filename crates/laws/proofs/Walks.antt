@@ -1,7 +1,7 @@
 -- Walks and cycles of any relation: a shortest closed walk is a cycle; different records below n are at most n; a walk by records
 -- up to k is one by records below k, or two that meet at k; the least next record, again and again, gives the least cycle.
 use Prim.Native.Nat.{ℕ, zero, suc, _+_, _<_, _≤_}
-use mathlib.Core.Path.{_≡_, refl, sym, ap, subst, _∙_}
+use mathlib.Core.Path.{_≡_, refl, sym, subst}
 use mathlib.Core.List.{List, [], _∷_, _++_}
 use mathlib.Core.Logic.{_⊎_, inl, inr, ⊎-elim}
 use mathlib.Core.Option.{some}

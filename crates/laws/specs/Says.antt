@@ -1,6 +1,6 @@
 -- A test tells a fact: it passes exactly where the fact holds.
-use mathlib.Core.Bool.{Bool, true, false, _||_}
-use Prim.Native.Nat.{ℕ, zero, suc, _<_}
+use mathlib.Core.Bool.{Bool, false, _||_}
+use Prim.Native.Nat.{ℕ, zero, suc}
 use lib.Dec.{T}
 
 pub record Says (b : Bool) (P : Type 0) : Type 0 where

@@ -1,13 +1,16 @@
 -- What a renumbering carries over: every relation of document 01, and the findings.
-use mathlib.Core.Path.{sym, subst}
-use mathlib.Core.List.{map}
+use mathlib.Core.Path.{_≡_, refl, sym, subst}
+use mathlib.Core.List.{List, map}
 use Prim.Native.Nat.{ℕ, _<_}
+use Rattle.findings.specs.declared.Finding.{Finding}
+use Rattle.findings.specs.declared.Finding.the-variants.{R, A1, A2, A3, A4, W}
+use Rattle.laws.specs.Witness.{Witness, a-record, a-pair, a-cycle, record-with, pair-with, cycle-with}
 use Rattle.laws.proofs.Steps.{plus-map}
 use Rattle.laws.proofs.Closure.{tri}
 use Rattle.model.specs.Table.{Table, Read}
 use Rattle.model.specs.Relations.{Hb, WriteOrReader, the-write, a-reader, Wb0, Wb, Fr, PoDiff, HbscBy, at-one-location, by-po≠, by-po≠-hb-po≠, Hbsc}
 use Rattle.model.specs.Relations.{ScStepBy, by-hbsc, by-wb, by-fr, ScStep, EarlierRace, SomeEarlierRace, WriteBefore, Justified, with-source, no-write-before, races-earlier, StandsOnRace}
-use Rattle.model.specs.Findings.{HoldsR, HoldsA1, HoldsA2, HoldsA3, HoldsA4, HoldsW}
+use Rattle.model.specs.Findings.{ShowsR, ShowsA1, ShowsA2, ShowsA3, ShowsA4, ShowsW, Shows, Holds}
 use Rattle.laws.proofs.Renumbered.{cycle-map}
 use Rattle.model.proofs.Laws.{race-sym}
 use Rattle.model.proofs.Renumber.{Renumbering, Along, Related, pulled, pulled-is, related-pulled}
@@ -27,12 +30,8 @@ pub record Keeps (t′ t : Table) (f : ℕ → ℕ) : Type 0 where
   pub hbsc : Along f (Hbsc t′) (Hbsc t)
   pub sc-step : Along f (ScStep t′) (ScStep t)
   pub earlier-race-back : (w r : ℕ) → w < r → EarlierRace t (f w) (f r) → EarlierRace t′ w r
-  pub A1 : HoldsA1 t′ → HoldsA1 t
-  pub A2 : HoldsA2 t′ → HoldsA2 t
-  pub A3 : HoldsA3 t′ → HoldsA3 t
-  pub A4 : HoldsA4 t′ → HoldsA4 t
-  pub W : HoldsW t′ → HoldsW t
-  pub R : RacesStay t′ t f → HoldsR t′ → HoldsR t
+  -- R alone depends on the order of the records, by the races earlier in the table
+  pub finding : (x : Finding) → (x ≡ R → RacesStay t′ t f) → Holds t′ x → Holds t x
 
 module _ (t′ t : Table) (f : ℕ → ℕ) (N : Renumbering t′ t f) where
   open Renumbering N using (injective)
@@ -94,39 +93,6 @@ module _ (t′ t : Table) (f : ℕ → ℕ) (N : Renumbering t′ t f) where
   sc-step : (a b : ℕ) → ScStep p a b → ScStep t (f a) (f b)
   sc-step a b h = record { sc-a = h .sc-a; sc-b = h .sc-b; by = sc-step-by a b (h .by) }
 
-  A1 : HoldsA1 p → HoldsA1 t
-  A1 h = (map f (h .0), cycle-map f injective (Wb0 p) (Wb0 t) wb0 (h .0) (h .1))
-
-  A2 : HoldsA2 p → HoldsA2 t
-  A2 (a, b, h) =
-      (f a, f b, record { conflict = same-conflict a b .0 (h .conflict); before = same-hb a b .0 (h .before) })
-
-  A3 : HoldsA3 p → HoldsA3 t
-  A3 (a, b, h) = (
-    f a,
-    f b,
-    record {
-      before = same-hb a b .0 (h .before);
-      s′ = f (h .s′);
-      s = f (h .s);
-      source′ = source-along (h .s′) a (h .source′);
-      source = source-along (h .s) b (h .source);
-      conflict = same-conflict (h .s′) (h .s) .0 (h .conflict);
-    },
-  )
-
-  A4 : HoldsA4 p → HoldsA4 t
-  A4 h = (map f (h .0), cycle-map f injective (ScStep p) (ScStep t) sc-step (h .0) (h .1))
-
-  -- the two writes stand in t in the same order, or in the other
-  W : HoldsW p → HoldsW t
-  W (a, b, h) =
-      let race = same-race a b .0 (h .race) in
-      tri (f a) (f b)
-      (λ l. (f a, f b, record { in-order = l; write-p = h .write-p; write-q = h .write-q; race = race }))
-      (λ e. absurd (race .differ e))
-      (λ g. (f b, f a, record { in-order = g; write-p = h .write-q; write-q = h .write-p; race = race-sym race }))
-
   write-before : (w r : ℕ) → WriteBefore p w r → WriteBefore t (f w) (f r)
   write-before w r h = record { write = h .write; one-location = h .one-location; before = same-hb w r .0 (h .before) }
 
@@ -156,6 +122,62 @@ module _ (t′ t : Table) (f : ℕ → ℕ) (N : Renumbering t′ t f) where
         race = race;
       })))))
 
+  -- ---- the findings
+
+  carries-R : RacesStay p t f → (r : ℕ) → ShowsR p r → ShowsR t (f r)
+  carries-R S r h = record { reads = h .reads; not-justified = not-justified S r (h .reads) (h .not-justified) }
+
+  carries-A1 : (c : List ℕ) → ShowsA1 p c → ShowsA1 t (map f c)
+  carries-A1 = cycle-map f injective (Wb0 p) (Wb0 t) wb0
+
+  carries-A2 : (a b : ℕ) → ShowsA2 p a b → ShowsA2 t (f a) (f b)
+  carries-A2 a b h = record { conflict = same-conflict a b .0 (h .conflict); before = same-hb a b .0 (h .before) }
+
+  carries-A3 : (a b : ℕ) → ShowsA3 p a b → ShowsA3 t (f a) (f b)
+  carries-A3 a b h = record {
+    before = same-hb a b .0 (h .before);
+    s′ = f (h .s′);
+    s = f (h .s);
+    source′ = source-along (h .s′) a (h .source′);
+    source = source-along (h .s) b (h .source);
+    conflict = same-conflict (h .s′) (h .s) .0 (h .conflict);
+  }
+
+  carries-A4 : (c : List ℕ) → ShowsA4 p c → ShowsA4 t (map f c)
+  carries-A4 = cycle-map f injective (ScStep p) (ScStep t) sc-step
+
+  abbrev pair : ℕ → ℕ → Witness
+  pair a b = a-pair (record { first = f a; second = f b })
+
+  -- the two writes stand in t in the same order, or in the other
+  carries-W : (a b : ℕ) → ShowsW p a b → Holds t W
+  carries-W a b h =
+      let race = same-race a b .0 (h .race) in
+      tri (f a) (f b)
+      (λ l. record {
+        witness = pair a b;
+        shows = pair-with (record { in-order = l; write-p = h .write-p; write-q = h .write-q; race = race });
+      })
+      (λ e. absurd (race .differ e))
+      (λ g. record {
+        witness = pair b a;
+        shows = pair-with (record { in-order = g; write-p = h .write-q; write-q = h .write-p; race = race-sym race });
+      })
+
+  carries : (x : Finding) → (x ≡ R → RacesStay p t f) → (w : Witness) → Shows p x w → Holds t x
+  carries R S w (record-with {n = r} h) = record { witness = a-record (f r); shows = record-with (carries-R (S refl) r h) }
+  carries A1 S w (cycle-with {c = c} h) = record { witness = a-cycle (map f c); shows = cycle-with (carries-A1 c h) }
+  carries A2 S w (pair-with {p = q} h) =
+      let a = q .first in
+      let b = q .second in
+      record { witness = pair a b; shows = pair-with (carries-A2 a b h) }
+  carries A3 S w (pair-with {p = q} h) =
+      let a = q .first in
+      let b = q .second in
+      record { witness = pair a b; shows = pair-with (carries-A3 a b h) }
+  carries A4 S w (cycle-with {c = c} h) = record { witness = a-cycle (map f c); shows = cycle-with (carries-A4 c h) }
+  carries W S w (pair-with {p = q} h) = carries-W (q .first) (q .second) h
+
   keeps-pulled : Keeps p t f
   keeps-pulled = record {
     related = related-pulled t′ t f N;
@@ -166,12 +188,7 @@ module _ (t′ t : Table) (f : ℕ → ℕ) (N : Renumbering t′ t f) where
     hbsc = hbsc;
     sc-step = sc-step;
     earlier-race-back = earlier-race-back;
-    A1 = A1;
-    A2 = A2;
-    A3 = A3;
-    A4 = A4;
-    W = W;
-    R = λ S (r, h). (f r, record { reads = h .reads; not-justified = not-justified S r (h .reads) (h .not-justified) });
+    finding = λ x S h. carries x S (h .witness) (h .shows);
   }
 
 -- the lemma on renumberings

@@ -51,10 +51,6 @@ module _ (k : ℕ → Bool) where
   pub new-below : (m n : ℕ) → m < n → T (k m) → newNumber k m < newNumber k n
   new-below m n l h = omega (arith, one-more (k m) (newNumber k m) h, new-rises (suc m) n l)
 
-  pub new-injective : (m n : ℕ) → T (k m) → T (k n) → newNumber k m ≡ newNumber k n → m ≡ n
-  new-injective m n g h e =
-      tri m n (λ l. absurd (omega (arith, new-below m n l g))) (λ q. q) (λ l. absurd (omega (arith, new-below n m l h)))
-
 -- ---- old numbers
 
 -- record n is skipped unless it is kept: numbers from n on move up by one

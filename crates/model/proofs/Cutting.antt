@@ -109,12 +109,7 @@ module _ (k : ℕ → Bool) (t t′ : Table) (W : WellFormed t) (S : Selection k
     same-hb = same-for (Hb t) (Hb t′) (kept .related .same-hb);
     same-conflict = same-for (Conflict t) (Conflict t′) (kept .related .same-conflict);
     same-race = same-for (Race t) (Race t′) (kept .related .same-race);
-    no-R = λ none h. none (kept .R races-stay h);
-    no-A1 = λ none h. none (kept .A1 h);
-    no-A2 = λ none h. none (kept .A2 h);
-    no-A3 = λ none h. none (kept .A3 h);
-    no-A4 = λ none h. none (kept .A4 h);
-    no-W = λ none h. none (kept .W h);
+    no-finding = λ x absent h. absent (kept .finding x (λ e. races-stay) h);
   }
 
 -- Demand 3: cutting a table down invents no fault.

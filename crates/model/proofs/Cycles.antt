@@ -16,7 +16,7 @@ use Rattle.laws.specs.Tails.{LeastTail}
 use Rattle.laws.proofs.Says.{says-iff, says-and, says-any, any-of}
 use Rattle.laws.proofs.Steps.{Within}
 use Rattle.laws.proofs.Walks.{cycle-fits, last-step, chosen, least-closed-walk, walk-plus}
-use Rattle.model.proofs.Rows.{Tells, Rows, rows, look, plus, rows-tell, plus-tells}
+use Rattle.model.proofs.MirrorRows.{Tells, Rows, rows, look, plus, rows-tell, plus-tells}
 use Rattle.model.proofs.Search.{firstBelow, first-least}
 
 -- a walk by way of k records

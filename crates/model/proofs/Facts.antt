@@ -1,23 +1,19 @@
 -- What a well-formed table has, record by record: refusals 6, 7 and 8 the other way round.
 use mathlib.Core.Path.{_≡_, refl, sym, subst}
-use mathlib.Core.Logic.{_⊎_, inl, inr}
 use mathlib.Core.Option.{Option, none, some}
 use Prim.Native.Nat.{ℕ, _<_}
 use native.Mathlib.Omega.{arith}
 use native.Mathlib.Decide.{ℕ-discrete, decLt}
-use lib.Dec.{T, eqb-refl}
-use Rattle.events.specs.declared.Value.the-variants.{U, Known}
+use lib.Dec.{T}
 use Rattle.events.specs.declared.Link.{Link}
 use Rattle.events.specs.declared.Link.the-variants.{Absent, To}
-use Rattle.events.specs.declared.Event.{Event}
-use Rattle.events.specs.declared.Event.the-variants.{Init, Load, Store, Update}
 use Rattle.events.specs.declared.Record.{Record}
 use Rattle.events.specs.Words.{isRead, isWrite, isSC, orderOf, sameLocation, locationOf, oneLocation}
 use Rattle.laws.proofs.Says.{says-dec, says-T, says-eq, by-dec}
-use Rattle.model.specs.Table.{Table, inert, Inside, thread, IsInit, Read, Parent, Source, NoSource, Write, SC, OneLocation}
-use Rattle.model.specs.WellFormed.{ReadsValue, WritesValue, Root, no-root, no-parent, parent-not-earlier, other-thread, thread-stood, EarlierWrite, no-earlier-write, other-value, known-from-u, known-from-nothing, TwoReads, twin, WellFormed}
+use Rattle.model.specs.Table.{Table, inert, Inside, thread, IsInit, Read, Parent, Source, Write, SC, OneLocation}
+use Rattle.model.specs.WellFormed.{Root, no-root, no-parent, parent-not-earlier, other-thread, thread-stood, EarlierWrite, no-earlier-write, WellFormed}
 use Rattle.model.proofs.Fields.{absent-to}
-use Rattle.model.proofs.Refusals.{says-root, says-earlier-write, says-two-reads}
+use Rattle.model.proofs.Refusals.{says-root, says-earlier-write}
 
 -- ---- locations
 
@@ -36,25 +32,12 @@ location-none : (x : Option ℕ) → ¬ T (sameLocation none x)
 location-none none h = h
 location-none (some b) h = h
 
-location-self : (e : Event) → T (isWrite e) → T (oneLocation e e)
-location-self Init h = h
-location-self (Load o x v) h = absurd h
-location-self (Store o x w) h = eqb-refl x
-location-self (Update o x v w) h = eqb-refl x
-
 module _ (t : Table) where
   abbrev location : ℕ → Option ℕ
   location n = locationOf (t .at n .event)
 
   pub location-sym : (a b : ℕ) → OneLocation t a b → OneLocation t b a
   location-sym a b = location-flip (location a) (location b)
-
-  pub location-trans : (a b c : ℕ) → OneLocation t a b → OneLocation t b c → OneLocation t a c
-  location-trans a b c h k =
-      subst (λ (x : Option ℕ). T (sameLocation (location a) x)) (location-same (location b) (location c) k) h
-
-  pub write-location : (n : ℕ) → Write t n → OneLocation t n n
-  write-location n = location-self (t .at n .event)
 
   pub one-parent : (p q n : ℕ) → Parent t p n → Parent t q n → p ≡ q
   one-parent p q n e f = cc
@@ -131,32 +114,9 @@ module _ {t : Table} (ok : WellFormed t) where
   source-is-earlier-write {s} {n} c =
       by-dec (says-dec (says-earlier-write t s n)) (λ d. ok .sound n (source-inside c) .not-7 (no-earlier-write c d))
 
-  pub known-as-written : {s n : ℕ} (w v : ℕ) → Source t s n → WritesValue t s (Known w) → ReadsValue t n (Known v) → w ≡ v
-  known-as-written {s} {n} w v c a b =
-      by-dec (ℕ-discrete w v) (λ d. ok .sound n (source-inside c) .not-7 (other-value c a b d))
-
-  pub never-known-from-u : {s n : ℕ} (v : ℕ) → Source t s n → WritesValue t s U → ¬ ReadsValue t n (Known v)
-  never-known-from-u {n = n} v c a b = ok .sound n (source-inside c) .not-7 (known-from-u c a b)
-
-  pub never-known-from-nothing : (n v : ℕ) → Inside t n → NoSource t n → ¬ ReadsValue t n (Known v)
-  never-known-from-nothing n v h e b = ok .sound n h .not-7 (known-from-nothing e b)
-
   -- only reads have a source
   pub has-source : (s n : ℕ) → t .at n .source ≡ To s → Source t s n
   has-source s n e = record { reads = by-dec (says-dec (says-T (isRead (t .at n .event)))) (λ d. absent-to (ok .sound n inside .only-reads d) e); is = e }
     where
       inside : Inside t n
       inside = inside-by (λ r. r .source ≡ To s) (absent-to refl) n e
-
-  pub source-or-none : (n : ℕ) → ((s : ℕ) × Source t s n) ⊎ NoSource t n
-  source-or-none n = go (t .at n .source) refl
-    where
-      go : (l : Link) → t .at n .source ≡ l → ((s : ℕ) × Source t s n) ⊎ NoSource t n
-      go Absent e = inr e
-      go (To s) e = inl (s, has-source s n e)
-
-  -- ---- refusal 8
-
-  pub twins-read : (m n : ℕ) → Inside t n → m < n → t .at m .parent ≡ t .at n .parent → thread t m ≡ thread t n → TwoReads t m n
-  twins-read m n h l e d =
-      by-dec (says-dec (says-two-reads t m n)) (λ x. ok .sound n h .not-8 (twin l e d x))

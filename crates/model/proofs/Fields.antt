@@ -67,6 +67,10 @@ Leads (To n) = Unit {0}
 pub absent-to : {l : Link} {n : ℕ} → l ≡ Absent → l ≡ To n → ⊥
 absent-to e f = subst Leads (sym f ∙ e) tt
 
+-- a link leads to one record
+pub one-end : {l : Link} {r s : ℕ} → l ≡ To s → l ≡ To r → r ≡ s
+one-end e f = cc
+
 -- the link leads to a number that passes
 abbrev pub linkThat : Link → (ℕ → Bool) → Bool
 linkThat Absent f = false

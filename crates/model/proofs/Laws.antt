@@ -1,29 +1,14 @@
--- Laws of the relations: hb by its last step, conflict by cases and downward, wb0 by owners.
+-- Laws of the relations: po by the parent, hb by its last step, conflict by cases and downward.
 use mathlib.Core.Path.{_≡_, refl, sym, subst}
 use mathlib.Core.Logic.{_⊎_, inl, inr, _↔_}
 use Prim.Native.Nat.{ℕ}
 use Rattle.laws.specs.Steps.{one, more}
 use Rattle.laws.proofs.Steps.{plus-trans}
-use Rattle.model.specs.Table.{Table, Inside, Parent, Source, Write, OneLocation}
-use Rattle.model.specs.Relations.{Po, AtOrAbove, equal, above, Apart, Conflict, Sw, PoOrSw, by-po, by-sw, Hb, Race, WriteOrReader, the-write, a-reader, Wb0}
+use Rattle.model.specs.Table.{Table, Inside, Parent}
+use Rattle.model.specs.Relations.{Po, AtOrAbove, equal, above, Apart, Conflict, Sw, PoOrSw, by-po, by-sw, Hb, Race}
 use Rattle.model.specs.WellFormed.{WellFormed}
-use Rattle.model.proofs.Facts.{location-sym, location-trans, write-location, one-parent, source-is-earlier-write}
+use Rattle.model.proofs.Facts.{location-sym, one-parent}
 use Rattle.model.proofs.Within.{po-within}
-
--- a record's owners: itself if it writes, its source if it reads
-pub data Owner (t : Table) (w : ℕ) : ℕ → Type 0 where
-  itself : Write t w → Owner t w w
-  its-source : {r : ℕ} → Source t w r → Owner t w r
-
--- hb between two records of one location, from an owner of the one to a different owner of the other
-pub record OwnersStep (t : Table) (w w′ : ℕ) : Type 0 where
-  pub from : ℕ
-  pub to : ℕ
-  pub owner : Owner t w from
-  pub owner′ : Owner t w′ to
-  pub one-location : OneLocation t from to
-  pub before : Hb t from to
-  pub differ : ¬ (w ≡ w′)
 
 -- the last step of hb: from the parent or by sw, from a record that is a or that a is hb before
 pub record HbLast (t : Table) (a b : ℕ) : Type 0 where
@@ -83,12 +68,6 @@ module _ {t : Table} where
   pub hb-iff-last : {a b : ℕ} → Hb t a b ↔ HbLast t a b
   hb-iff-last = (hb-last, last-hb)
 
-  pub hb-trans : {a m b : ℕ} → Hb t a m → Hb t m b → Hb t a b
-  hb-trans = plus-trans
-
-  pub po-hb : {a b : ℕ} → Po t a b → Hb t a b
-  po-hb u = one (by-po u)
-
   -- ---- conflict
 
   apart-sym : {a b : ℕ} → Apart t a b → Apart t b a
@@ -143,54 +122,3 @@ module _ {t : Table} (ok : WellFormed t) where
 
   pub conflict-iff-cases : {a b : ℕ} → Inside t a → Inside t b → Conflict t a b ↔ ConflictBy t a b
   conflict-iff-cases h k = (conflict-cases, cases-conflict h k)
-
-  -- ---- wb0 by owners
-
-  owner-write : {w x : ℕ} → Owner t w x → Write t w
-  owner-write (itself h) = h
-  owner-write (its-source c) = source-is-earlier-write ok c .write
-
-  owner-location : {w x : ℕ} → Owner t w x → OneLocation t w x
-  owner-location {w} (itself h) = write-location t w h
-  owner-location (its-source c) = source-is-earlier-write ok c .one-location
-
-  owner-of : {w x : ℕ} → Write t w → WriteOrReader t w x → Owner t w x
-  owner-of h the-write = itself h
-  owner-of h (a-reader c) = its-source c
-
-  of-owner : {w x : ℕ} → Owner t w x → WriteOrReader t w x
-  of-owner (itself h) = the-write
-  of-owner (its-source c) = a-reader c
-
-  chain : (a b c d : ℕ) → OneLocation t a b → OneLocation t b c → OneLocation t c d → OneLocation t a d
-  chain a b c d h k l = location-trans t a c d (location-trans t a b c h k) l
-
-  wb0-owners : {w w′ : ℕ} → Wb0 t w w′ → OwnersStep t w w′
-  wb0-owners {w} {w′} s =
-      let p = owner-of (s .write) (s .of-w) in
-      let q = owner-of (s .write′) (s .of-w′) in
-      record {
-        from = s .from;
-        to = s .to;
-        owner = p;
-        owner′ = q;
-        one-location = chain (s .from) w w′ (s .to) (location-sym t w (s .from) (owner-location p)) (s .one-location) (owner-location q);
-        before = s .before;
-        differ = s .differ;
-      }
-
-  owners-wb0 : {w w′ : ℕ} → OwnersStep t w w′ → Wb0 t w w′
-  owners-wb0 {w} {w′} s = record {
-    write = owner-write (s .owner);
-    write′ = owner-write (s .owner′);
-    differ = s .differ;
-    one-location = chain w (s .from) (s .to) w′ (owner-location (s .owner)) (s .one-location) (location-sym t w′ (s .to) (owner-location (s .owner′)));
-    from = s .from;
-    to = s .to;
-    of-w = of-owner (s .owner);
-    of-w′ = of-owner (s .owner′);
-    before = s .before;
-  }
-
-  pub wb0-iff-owners : {w w′ : ℕ} → Wb0 t w w′ ↔ OwnersStep t w w′
-  wb0-iff-owners = (wb0-owners, owners-wb0)

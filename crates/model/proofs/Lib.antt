@@ -1,11 +1,12 @@
 -- What is proved of the definitions.
 pub mod Unique
+pub mod Verdicts
 pub mod Fields
 pub mod Refusals
 pub mod Facts
 pub mod Within
 pub mod Laws
-pub mod Rows
+pub mod MirrorRows
 pub mod Search
 pub mod Cycles
 pub mod Mirror

@@ -1,19 +1,13 @@
--- The definitions' computed mirror: each relation and finding as a test over record numbers, and the report by search. Nobody has to
+-- The definitions' computed mirror: each relation, and each finding that is no cycle, as a test over record numbers. Nobody has to
 -- believe it: MirrorTells proves that each test tells its definition.
 use mathlib.Core.Bool.{Bool, not, _&&_, _||_}
-use mathlib.Core.Option.{Option}
-use mathlib.Core.List.{List}
 use Prim.Native.Nat.{ℕ}
 use lib.Dec.{eqb, ltb}
 use Rattle.events.specs.declared.Link.the-variants.{Absent, To}
 use Rattle.laws.specs.Says.{anyBelow}
-use Rattle.laws.specs.Least.{Pair}
 use Rattle.model.specs.Table.{Table, thread}
-use Rattle.model.specs.Findings.{Report, consistent, verdictOf}
 use Rattle.model.proofs.Fields.{sameLink, read?, write?, na?, sc?, acquiring?, releasing?, oneLocation?, sourceThat}
-use Rattle.model.proofs.Rows.{Rows, rows, look, plus}
-use Rattle.model.proofs.Search.{firstBelow, firstPair}
-use Rattle.model.proofs.Cycles.{firstCycle}
+use Rattle.model.proofs.MirrorRows.{Rows, rows, look, plus}
 
 module _ (t : Table) where
   abbrev pub parent? : ℕ → ℕ → Bool
@@ -109,26 +103,3 @@ module _ (t : Table) where
 
   abbrev pub showsW? : Rows → ℕ → ℕ → Bool
   showsW? race p q = ltb p q && (write? t p && (write? t q && look race p q))
-
-  abbrev withVerdict : Option ℕ → Option (List ℕ) → Option Pair → Option Pair → Option (List ℕ) → Option Pair → Report
-  withVerdict R A1 A2 A3 A4 W =
-      let verdict = verdictOf (record { R = R; A1 = A1; A2 = A2; A3 = A3; A4 = A4; W = W; verdict = consistent }) in
-      record { R = R; A1 = A1; A2 = A2; A3 = A3; A4 = A4; W = W; verdict = verdict }
-
-  unfoldable pub mirrorReport : Report
-  mirrorReport =
-      let n = t .count in
-      let po = po-rows in
-      let cf = rows n (conflict? po) in
-      let hb = plus n (poOrSw? po) in
-      let race = rows n (race? cf hb) in
-      let wb0 = rows n (wb0? hb) in
-      let wb = plus n (look wb0) in
-      let sc = rows n (scStep? po hb wb) in
-      withVerdict
-      (firstBelow n (showsR? hb race))
-      (firstCycle n (look wb0))
-      (firstPair n (showsA2? cf hb))
-      (firstPair n (showsA3? cf hb))
-      (firstCycle n (look sc))
-      (firstPair n (showsW? race))

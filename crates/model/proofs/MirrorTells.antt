@@ -12,7 +12,7 @@ use Rattle.model.specs.WellFormed.{WellFormed}
 use Rattle.model.specs.Findings.{ShowsR, ShowsA2, ShowsA3, ShowsW}
 use Rattle.model.proofs.Fields.{says-link, read?, write?, na?, sc?, acquiring?, releasing?, oneLocation?, says-source-that}
 use Rattle.model.proofs.Within.{parent-within, po-within, source-within, po-or-sw-within, hb-within, above-within}
-use Rattle.model.proofs.Rows.{Tells, Rows, rows, look, plus, rows-tell, plus-tells}
+use Rattle.model.proofs.MirrorRows.{Tells, Rows, rows, look, plus, rows-tell, plus-tells}
 use Rattle.model.proofs.Mirror.{source?, noSource?, po-rows, atOrAbove?, apart?, conflict?, conflict-rows, sw?, poOrSw?, hb-rows, race?, race-rows, writeOrReader?, wb0?, fr?, poDiff?, poHbPo?, hbsc?, scStep?, earlierRace?, writeBefore?, justified?, showsR?, showsA2?, showsA3?, showsW?}
 
 says-source : (t : Table) (s r : ℕ) → Says (source? t s r) (Source t s r)

@@ -10,7 +10,7 @@ use Rattle.laws.specs.Least.{Least, LeastNumber, LeastPair, Pair, PairAtMost, b
 use Rattle.laws.proofs.Steps.{Within}
 use Rattle.laws.proofs.Least.{least-iff}
 use Rattle.laws.proofs.Closure.{tri}
-use Rattle.model.proofs.Rows.{Tells}
+use Rattle.model.proofs.MirrorRows.{Tells}
 
 module _ {A : Type 0} where
   abbrev orElse : Option A → Option A → Option A

@@ -1,13 +1,9 @@
 -- Each relation of a well-formed table stays inside it; po and hb lead to larger numbers; a cycle has no more records than the table.
-use mathlib.Core.List.{List}
-use Prim.Native.Nat.{ℕ, _<_, _≤_}
+use Prim.Native.Nat.{ℕ, _<_}
 use native.Mathlib.Omega.{arith}
-use lib.ListN.{length}
-use Rattle.laws.specs.Steps.{IsCycle}
 use Rattle.laws.proofs.Steps.{Within, plus-within, plus-rises}
-use Rattle.laws.proofs.Walks.{cycle-fits}
 use Rattle.model.specs.Table.{Table, Inside, Parent, Source}
-use Rattle.model.specs.Relations.{Po, AtOrAbove, equal, above, Conflict, Sw, PoOrSw, by-po, by-sw, Hb, Race, Wb0, Wb, Fr, ScStep}
+use Rattle.model.specs.Relations.{Po, AtOrAbove, equal, above, Sw, PoOrSw, by-po, by-sw, Hb, Race, Wb0, ScStep}
 use Rattle.model.specs.WellFormed.{WellFormed}
 use Rattle.model.proofs.Facts.{location-left, location-right, write-inside, sc-inside, parent-inside, parent-earlier, source-inside, source-is-earlier-write}
 
@@ -55,21 +51,12 @@ module _ {t : Table} (ok : WellFormed t) where
       right (equal h) = h
       right (above u) = po-within .right u
 
-  pub conflict-within : Within (t .count) (Conflict t)
-  conflict-within = record { left = λ c. above-within .right (c .above-a); right = λ c. above-within .right (c .above-b) }
-
   pub race-within : Within (t .count) (Race t)
   race-within =
       record { left = λ {a} {b} r. location-left ok a b (r .one-location); right = λ {a} {b} r. location-right ok a b (r .one-location) }
 
   pub wb0-within : Within (t .count) (Wb0 t)
   wb0-within = record { left = λ {a} s. write-inside ok a (s .write); right = λ {a} {b} s. write-inside ok b (s .write′) }
-
-  pub wb-within : Within (t .count) (Wb t)
-  wb-within = plus-within wb0-within
-
-  pub fr-within : Within (t .count) (Fr t)
-  fr-within = record { left = λ f. source-within .right (f .source); right = λ f. wb-within .right (f .before) }
 
   pub sc-step-within : Within (t .count) (ScStep t)
   sc-step-within = record { left = λ {a} s. sc-inside ok a (s .sc-a); right = λ {a} {b} s. sc-inside ok b (s .sc-b) }
@@ -85,11 +72,3 @@ module _ {t : Table} (ok : WellFormed t) where
       by : (a b : ℕ) → PoOrSw t a b → a < b
       by a b (by-po u) = po-rises u
       by a b (by-sw s) = source-is-earlier-write ok (s .source) .earlier
-
-  -- ---- a cycle has no more records than the table
-
-  pub wb0-cycle-fits : (c : List ℕ) → IsCycle (Wb0 t) c → length c ≤ t .count
-  wb0-cycle-fits = cycle-fits (Wb0 t) (t .count) wb0-within
-
-  pub sc-cycle-fits : (c : List ℕ) → IsCycle (ScStep t) c → length c ≤ t .count
-  sc-cycle-fits = cycle-fits (ScStep t) (t .count) sc-step-within

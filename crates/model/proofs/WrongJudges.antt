@@ -16,21 +16,25 @@ use Rattle.events.specs.declared.Event.the-variants.{Init, Load, Store}
 use Rattle.events.specs.declared.Record.{Record}
 use Rattle.laws.specs.Says.{anyBelow}
 use Rattle.laws.specs.Steps.{Plus, one, more}
-use Rattle.laws.specs.Least.{Least, LeastPair}
+use Rattle.laws.specs.Witness.{a-pair, pair-with}
 use Rattle.laws.proofs.Says.{says-lt, says-not}
+use Rattle.findings.specs.declared.Finding.the-variants.{R, A1, W}
+use Rattle.findings.specs.declared.Verdict.the-variants.{Consistent}
 use Rattle.model.specs.Table.{Table, listed, Inside, thread, IsInit, Parent, Source, NoSource, Write, NA, OneLocation}
 use Rattle.model.specs.Relations.{Apart, by-po, Hb, Race, Wb0, SomeWriteBefore}
 use Rattle.model.specs.WellFormed.{WellFormed}
-use Rattle.model.specs.Findings.{Report, Reports, consistent, HoldsR, HoldsA1, ShowsW}
-use Rattle.model.specs.Examples.{Example, Right, E1, E2, E8, E9}
+use Rattle.model.specs.Findings.{Report, Reports, Holds}
+use Rattle.model.specs.Examples.{Example, Right, allowed, E1, E2, E8, E9}
 use Rattle.model.proofs.Unique.{one-report}
+use Rattle.model.proofs.Verdicts.{holds-by, holds-not}
 use Rattle.model.proofs.Fields.{absent-to}
 use Rattle.model.proofs.Facts.{thread-of-parent}
 use Rattle.model.proofs.Within.{hb-rises}
-use Rattle.model.proofs.Rows.{look}
+use Rattle.model.proofs.MirrorRows.{look}
 use Rattle.model.proofs.Refusals.{wellFormed?}
-use Rattle.model.proofs.Mirror.{hb-rows, race-rows, mirrorReport}
+use Rattle.model.proofs.Mirror.{hb-rows, race-rows}
 use Rattle.model.proofs.MirrorTells.{hb-told, race-told}
+use Rattle.model.proofs.MirrorReport.{mirrored}
 use Rattle.model.proofs.Worked.{right, examples-right}
 
 -- ---- judges that never say one thing
@@ -61,7 +65,7 @@ not-refusing-all j refuses ok =
     omega arith
 
 -- "or says consistent to all"
-pub not-consistent-to-all : (j : Table → Option Report) → ((t : Table) (x : Report) → j t ≡ some x → x .verdict ≡ consistent) → ¬ Judges j
+pub not-consistent-to-all : (j : Table → Option Report) → ((t : Table) (x : Report) → j t ≡ some x → x .verdict ≡ Consistent) → ¬ Judges j
 not-consistent-to-all j says ok =
     let t = listed (E2 .table) in
     let (x, (e, y)) = ok .reports t (E2-right .well-formed) in
@@ -82,14 +86,8 @@ chain-followed t (suc n) step =
 pub never-one-step : (t : Table) (w : ℕ) → ¬ Wb0 t w w
 never-one-step t w s = s .differ refl
 
-shown : {A : Type 0} {AtMost : A → A → Type 0} {Shows : A → Type 0} {a : A} → Least AtMost Shows (some a) → Shows a
-shown (Least.least p l) = p
-
-lacks : {A : Type 0} {AtMost : A → A → Type 0} {Shows : A → Type 0} → Least AtMost Shows none → (a : A) → ¬ Shows a
-lacks (Least.absent h) = h
-
-pub E9-has-a-cycle : HoldsA1 (listed (E9 .table))
-E9-has-a-cycle = (5 ∷ 6 ∷ [], shown (E9-right .reports .A1))
+pub E9-has-a-cycle : Holds (listed (E9 .table)) A1
+E9-has-a-cycle = holds-by A1 (E9-right .reports .least A1) refl
 
 -- ---- "Testing a read against races with later writes: reads 5 and 6 of E8 would lose their justification."
 
@@ -134,8 +132,8 @@ E8-reads-lose =
     )
 
 -- and yet the definition finds every read of E8 justified
-pub E8-reads-justified : ¬ HoldsR E8-table
-E8-reads-justified (r, shows) = lacks (E8-right .reports .R) r shows
+pub E8-reads-justified : ¬ Holds E8-table R
+E8-reads-justified = holds-not R (E8-right .reports .least R) refl
 
 -- ---- races without the last clause: "without it the two arms of one branch would race"
 
@@ -150,12 +148,14 @@ pub record RaceBy (Cf : ℕ → ℕ → Type 0) (t : Table) (a b : ℕ) : Type 0
   pub no-conflict : ¬ Cf a b
 
 -- where W is absent no two writes race
-no-race : (t : Table) (a b : ℕ) → LeastPair (ShowsW t) none → T (ltb a b) → Write t a → Write t b → ¬ Race t a b
-no-race t a b w l p q r =
-    lacks w (record { first = a; second = b }) (record { in-order = says-lt a b .to l; write-p = p; write-q = q; race = r })
+no-race : (t : Table) (a b : ℕ) → ¬ Holds t W → T (ltb a b) → Write t a → Write t b → ¬ Race t a b
+no-race t a b no-W l p q r = no-W (record {
+  witness = a-pair (record { first = a; second = b });
+  shows = pair-with (record { in-order = says-lt a b .to l; write-p = p; write-q = q; race = r });
+})
 
 pub E8-arms-do-not-race : ¬ Race E8-table 7 11
-E8-arms-do-not-race = no-race E8-table 7 11 (E8-right .reports .W) tt tt tt
+E8-arms-do-not-race = no-race E8-table 7 11 (holds-not W (E8-right .reports .least W) refl) tt tt tt
 
 pub E8-arms-would-race : RaceBy (λ a b. ⊥) E8-table 7 11
 unfolding anyBelow
@@ -214,18 +214,18 @@ arms = record {
       ∷ line 2 (To 6) Absent (Store Na 1 (Known 1))
       ∷ line 3 (To 7) Absent (Store Na 1 (Known 2))
       ∷ [];
-  report = record { R = none; A1 = none; A2 = none; A3 = none; A4 = none; W = none; verdict = consistent };
+  report = allowed;
 }
 
 pub arms-right : Right arms
-unfolding wellFormed? mirrorReport anyBelow
-arms-right = right arms tt refl
+unfolding wellFormed? mirrored anyBelow
+arms-right = right arms tt refl refl
 
 abbrev arms-table : Table
 arms-table = listed (arms .table)
 
 pub arms-do-not-race : ¬ Race arms-table 8 9
-arms-do-not-race = no-race arms-table 8 9 (arms-right .reports .W) tt tt tt
+arms-do-not-race = no-race arms-table 8 9 (holds-not W (arms-right .reports .least W) refl) tt tt tt
 
 -- and the table would be undefined
 pub arms-would-race : RaceBy (ConflictInThread arms-table) arms-table 8 9

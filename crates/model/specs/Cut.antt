@@ -2,15 +2,16 @@
 use mathlib.Core.Path.{_≡_}
 use mathlib.Core.Logic.{_↔_}
 use mathlib.Core.Bool.{Bool, true, false}
-use Prim.Native.Nat.{ℕ, zero, suc, _<_}
+use Prim.Native.Nat.{ℕ, zero, suc}
 use lib.Dec.{T}
 use Rattle.events.specs.declared.Link.{Link}
 use Rattle.events.specs.declared.Link.the-variants.{Absent, To}
 use Rattle.events.specs.declared.Record.{Record}
+use Rattle.findings.specs.declared.Finding.{Finding}
 use Rattle.model.specs.Table.{Table, Ends, Inside, Parent, Source}
 use Rattle.model.specs.Relations.{Po, Hb, Conflict, Race, EarlierRace, StandsOnRace}
 use Rattle.model.specs.WellFormed.{WellFormed}
-use Rattle.model.specs.Findings.{HoldsR, HoldsA1, HoldsA2, HoldsA3, HoldsA4, HoldsW}
+use Rattle.model.specs.Findings.{Holds}
 
 abbrev pub linkBy : (ℕ → ℕ) → Link → Link
 linkBy f Absent = Absent
@@ -62,9 +63,4 @@ pub record NoFaultInvented (k : ℕ → Bool) (t t′ : Table) : Type 0 where
   pub same-conflict : SameFor k t (Conflict t) (Conflict t′)
   pub same-race : SameFor k t (Race t) (Race t′)
   -- "each finding absent from the whole is absent from the cut"
-  pub no-R : ¬ HoldsR t → ¬ HoldsR t′
-  pub no-A1 : ¬ HoldsA1 t → ¬ HoldsA1 t′
-  pub no-A2 : ¬ HoldsA2 t → ¬ HoldsA2 t′
-  pub no-A3 : ¬ HoldsA3 t → ¬ HoldsA3 t′
-  pub no-A4 : ¬ HoldsA4 t → ¬ HoldsA4 t′
-  pub no-W : ¬ HoldsW t → ¬ HoldsW t′
+  pub no-finding : (f : Finding) → ¬ Holds t f → ¬ Holds t′ f

@@ -1,17 +1,24 @@
 -- The small structures E1 to E10 of document 01, and the report of each.
+use mathlib.Core.Bool.{Bool, true, false}
 use mathlib.Core.Option.{Option, none, some}
 use mathlib.Core.List.{List, [], _∷_}
 use Prim.Native.Nat.{ℕ}
-use Rattle.events.specs.declared.Order.the-variants.{Na, Acq, Rel, Ar, Sc}
+use lib.Dec.{eqb}
+use Rattle.events.specs.declared.Order.the-variants.{Na, Acq, Rel, Sc}
 use Rattle.events.specs.declared.Value.the-variants.{U, Known}
 use Rattle.events.specs.declared.Link.the-variants.{Absent, To}
 use Rattle.events.specs.declared.Event.{Event}
 use Rattle.events.specs.declared.Event.the-variants.{Init, Load, Store}
 use Rattle.events.specs.declared.Record.{Record}
-use Rattle.laws.specs.Least.{Pair}
+use Rattle.laws.specs.Witness.{Witness, a-record, a-pair, a-cycle}
+use Rattle.findings.specs.declared.Finding.{Finding}
+use Rattle.findings.specs.declared.Finding.the-variants.{R, A1, A2, A3, A4, W}
+use Rattle.findings.specs.declared.Verdict.{Verdict}
+use Rattle.findings.specs.declared.Verdict.the-variants.{Undefined, Inconsistent, Consistent}
+use Rattle.findings.specs.Family.{placeOf}
 use Rattle.model.specs.Table.{listed}
 use Rattle.model.specs.WellFormed.{WellFormed}
-use Rattle.model.specs.Findings.{Report, Reports, undefined, inconsistent, consistent}
+use Rattle.model.specs.Findings.{Report, Reports}
 
 pub record Example : Type 0 where
   pub table : List Record
@@ -46,11 +53,20 @@ p parent thread event = record { thread = thread; parent = To parent; source = A
 abbrev ps : ℕ → ℕ → ℕ → Event → Record
 ps parent source thread event = record { thread = thread; parent = To parent; source = To source; event = event }
 
-abbrev pair : ℕ → ℕ → Option Pair
-pair a b = some (record { first = a; second = b })
+abbrev pair : ℕ → ℕ → Witness
+pair a b = a-pair (record { first = a; second = b })
 
-abbrev allowed : Report
-allowed = record { R = none; A1 = none; A2 = none; A3 = none; A4 = none; W = none; verdict = consistent }
+abbrev someIf : Bool → Witness → Option Witness
+someIf true w = some w
+someIf false w = none
+
+-- this finding with this witness, and no other
+abbrev only : Finding → Witness → Verdict → Report
+only f w verdict = record { witness = λ g. someIf (eqb (placeOf f) (placeOf g)) w; verdict = verdict }
+
+-- no finding
+abbrev pub allowed : Report
+allowed = record { witness = λ g. none; verdict = Consistent }
 
 -- "Init alone: consistent."
 abbrev pub E1 : Example
@@ -66,7 +82,7 @@ E2 = record {
       ∷ p 2 0 (Store Rel X (Known 1))
       ∷ ps 1 3 0 (Load Acq X (Known 1))
       ∷ [];
-  report = record { R = none; A1 = none; A2 = pair 2 4; A3 = none; A4 = none; W = none; verdict = inconsistent };
+  report = only A2 (pair 2 4) Inconsistent;
 }
 
 -- E3 and E4 up to their last record: "0 Init; 1 store NA X=0 p0; 2 store NA Y=0 p1; 3 Init thread 1 p2; 4 store SC X=1 p3;
@@ -88,7 +104,7 @@ twoThreads record-8 =
 abbrev pub E3 : Example
 E3 = record {
   table = twoThreads (ps 7 1 2 (Load Sc X (Known 0)));
-  report = record { R = none; A1 = none; A2 = none; A3 = none; A4 = some (4 ∷ 5 ∷ 7 ∷ 8 ∷ []); W = none; verdict = inconsistent };
+  report = only A4 (a-cycle (4 ∷ 5 ∷ 7 ∷ 8 ∷ [])) Inconsistent;
 }
 
 -- "E3 with record 8 reading 1 from 4: consistent."
@@ -105,7 +121,7 @@ E5 = record {
       ∷ p 1 1 (Store Na X (Known 1))
       ∷ p 2 2 (Store Na X (Known 2))
       ∷ [];
-  report = record { R = none; A1 = none; A2 = none; A3 = none; A4 = none; W = pair 3 4; verdict = undefined };
+  report = only W (pair 3 4) Undefined;
 }
 
 -- "0 Init; 1 store NA X=0 p0; 2 load NA X 0 p1 s1; 3 load NA X u p1, no source: R at 3."
@@ -117,7 +133,7 @@ E6 = record {
       ∷ ps 1 1 0 (Load Na X (Known 0))
       ∷ p 1 0 (Load Na X U)
       ∷ [];
-  report = record { R = some 3; A1 = none; A2 = none; A3 = none; A4 = none; W = none; verdict = inconsistent };
+  report = only R (a-record 3) Inconsistent;
 }
 
 -- "0 Init; 1 load NA X u p0, no source: consistent."
@@ -162,7 +178,7 @@ E9 = record {
       ∷ ps 4 6 4 (Load Acq X (Known 2))
       ∷ ps 9 5 4 (Load Acq X (Known 1))
       ∷ [];
-  report = record { R = none; A1 = some (5 ∷ 6 ∷ []); A2 = none; A3 = none; A4 = none; W = none; verdict = inconsistent };
+  report = only A1 (a-cycle (5 ∷ 6 ∷ [])) Inconsistent;
 }
 
 -- "0 Init; 1 store NA Z=0 p0; 2, 3, 4 Init of threads 1, 2, 3 p1; 5 store REL Z=1 p2; 6 load ACQ Z 0 p3 s1; 7 load ACQ Z 1 p3 s5;
@@ -183,7 +199,7 @@ E10 = record {
       ∷ ps 4 8 3 (Load Acq X (Known 1))
       ∷ ps 10 9 3 (Load Acq Y (Known 1))
       ∷ [];
-  report = record { R = none; A1 = none; A2 = none; A3 = pair 10 11; A4 = none; W = none; verdict = inconsistent };
+  report = only A3 (pair 10 11) Inconsistent;
 }
 
 abbrev pub examples : List Example

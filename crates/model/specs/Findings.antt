@@ -1,14 +1,13 @@
 -- The six findings of document 01, their witnesses, and the verdict.
-use mathlib.Core.Path.{_≡_}
-use mathlib.Core.Bool.{Bool, true, false, _||_}
-use mathlib.Core.Option.{Option, none, some}
+use mathlib.Core.Option.{Option}
 use mathlib.Core.List.{List}
 use Prim.Native.Nat.{ℕ, _<_}
 use Rattle.laws.specs.Steps.{IsCycle}
-use Rattle.laws.specs.Least.{Pair, LeastNumber, LeastPair, LeastCycle}
-use Rattle.laws.specs.Witness.{Witness, RecordWith, PairWith, CycleWith}
+use Rattle.laws.specs.Witness.{Witness, LeastWitness, RecordWith, PairWith, CycleWith}
 use Rattle.findings.specs.declared.Finding.{Finding}
-use Rattle.findings.specs.declared.Finding.the-variants as finding
+use Rattle.findings.specs.declared.Finding.the-variants.{R, A1, A2, A3, A4, W}
+use Rattle.findings.specs.declared.Verdict.{Verdict}
+use Rattle.findings.specs.declared.Verdict.the-variants.{Undefined, Inconsistent, Consistent}
 use Rattle.model.specs.Table.{Table, Source, Read, Write}
 use Rattle.model.specs.Relations.{Conflict, Hb, Race, Wb0, ScStep, Justified}
 
@@ -47,72 +46,32 @@ module _ (t : Table) where
     pub write-q : Write t q
     pub race : Race t p q
 
-  -- what shows each finding, as a record, a pair of records or a cycle
+  -- the table of findings: "finding | holds when | witness"
   abbrev pub Shows : Finding → Witness → Type 0
-  Shows finding.R = RecordWith ShowsR
-  Shows finding.A1 = CycleWith ShowsA1
-  Shows finding.A2 = PairWith ShowsA2
-  Shows finding.A3 = PairWith ShowsA3
-  Shows finding.A4 = CycleWith ShowsA4
-  Shows finding.W = PairWith ShowsW
+  Shows R = RecordWith ShowsR
+  Shows A1 = CycleWith ShowsA1
+  Shows A2 = PairWith ShowsA2
+  Shows A3 = PairWith ShowsA3
+  Shows A4 = CycleWith ShowsA4
+  Shows W = PairWith ShowsW
 
-  -- a finding holds where something shows it
+  -- a finding holds when some witness shows it
   pub record Holds (f : Finding) : Type 0 where
     pub witness : Witness
     pub shows : Shows f witness
 
-  abbrev pub HoldsR : Type 0
-  HoldsR = (r : ℕ) × ShowsR r
-
-  abbrev pub HoldsA1 : Type 0
-  HoldsA1 = (c : List ℕ) × ShowsA1 c
-
-  abbrev pub HoldsA2 : Type 0
-  HoldsA2 = (p : ℕ) × (q : ℕ) × ShowsA2 p q
-
-  abbrev pub HoldsA3 : Type 0
-  HoldsA3 = (r′ : ℕ) × (r : ℕ) × ShowsA3 r′ r
-
-  abbrev pub HoldsA4 : Type 0
-  HoldsA4 = (c : List ℕ) × ShowsA4 c
-
-  abbrev pub HoldsW : Type 0
-  HoldsW = (p : ℕ) × (q : ℕ) × ShowsW p q
-
-pub data Verdict : Type 0 where
-  undefined inconsistent consistent : Verdict
+  -- "Verdict: undefined if W holds, else inconsistent if any other does, else consistent."
+  pub data VerdictIs : Verdict → Type 0 where
+    W-holds : Holds W → VerdictIs Undefined
+    another-holds : ¬ Holds W → (f : Finding) → Holds f → VerdictIs Inconsistent
+    none-holds : ((f : Finding) → ¬ Holds f) → VerdictIs Consistent
 
 -- the witness of each finding, or none, and the verdict
 pub record Report : Type 0 where
-  pub R : Option ℕ
-  pub A1 : Option (List ℕ)
-  pub A2 : Option Pair
-  pub A3 : Option Pair
-  pub A4 : Option (List ℕ)
-  pub W : Option Pair
+  pub witness : Finding → Option Witness
   pub verdict : Verdict
-
-module _ {A : Type 0} where
-  abbrev pub found : Option A → Bool
-  found none = false
-  found (some a) = true
-
--- "undefined if W holds, else inconsistent if any other does, else consistent"
-abbrev pub verdictBy : Bool → Bool → Verdict
-verdictBy true other = undefined
-verdictBy false true = inconsistent
-verdictBy false false = consistent
-
-abbrev pub verdictOf : Report → Verdict
-verdictOf x =
-    verdictBy (found (x .W)) (found (x .R) || found (x .A1) || found (x .A2) || found (x .A3) || found (x .A4))
 
 -- x is the report of t: "All six are judged always", each with its least witness
 pub record Reports (t : Table) (x : Report) : Type 0 where
-  pub R : LeastNumber (ShowsR t) (x .R)
-  pub A1 : LeastCycle (Wb0 t) (x .A1)
-  pub A2 : LeastPair (ShowsA2 t) (x .A2)
-  pub A3 : LeastPair (ShowsA3 t) (x .A3)
-  pub A4 : LeastCycle (ScStep t) (x .A4)
-  pub W : LeastPair (ShowsW t) (x .W)
-  pub verdict : x .verdict ≡ verdictOf x
+  pub least : (f : Finding) → LeastWitness (Shows t f) (x .witness f)
+  pub verdict : VerdictIs t (x .verdict)

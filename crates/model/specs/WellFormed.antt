@@ -1,10 +1,10 @@
 -- A well-formed table: refusals 6, 7 and 8 of document 01, each as a proposition on the record of a number, are given nowhere.
 use mathlib.Core.Path.{_≡_}
-use mathlib.Core.Option.{Option, none, some}
+use mathlib.Core.Option.{some}
 use Prim.Native.Nat.{ℕ, _<_, _≤_}
 use Rattle.events.specs.declared.Value.{Value}
 use Rattle.events.specs.declared.Value.the-variants.{U, Known}
-use Rattle.events.specs.declared.Link.the-variants.{Absent, To}
+use Rattle.events.specs.declared.Link.the-variants.{Absent}
 use Rattle.events.specs.Words.{readOf, writtenOf}
 use Rattle.model.specs.Table.{Table, Ends, Inside, thread, Parent, Source, NoSource, IsInit, Read, Write, OneLocation}
 
