@@ -14,25 +14,16 @@ use Rattle.findings.specs.declared.Verdict.the-variants.{Undefined, Inconsisten
 use Rattle.findings.specs.Family.{inOrder, findingAt, foundOf, there}
 use Rattle.findings.specs.Meant.{Means, lent}
 use Rattle.model.specs.Table.{Table}
-use Rattle.model.specs.Relations.{Conflict, Hb, Race, Wb0, ScStep}
+use Rattle.model.specs.Relations.{Wb0, ScStep}
 use Rattle.model.specs.Findings.{Shows}
-use Rattle.table.specs.Events.{eventsOf}
-use Rattle.facts.specs.Sound.{Counted}
 use Rattle.relations.specs.Given.{Given}
 use Rattle.judge.specs.declared.Report.{Report}
 use Rattle.judge.specs.Answer.{Witnesses, Tells}
 
--- a sound table of n records, and the relations that reads and pairs are judged by
-pub record Related (b : List ℕ) (n : ℕ) (cf hb race : List ℕ) : Type 0 where
-  pub table : Counted b n
-  pub by-conflict : Given n (Conflict (eventsOf b)) cf
-  pub by-hb : Given n (Hb (eventsOf b)) hb
-  pub by-race : Given n (Race (eventsOf b)) race
-
 -- the relations that cycles are looked for in, and room for two
-pub record Lending (b : List ℕ) (n : ℕ) (wb0 sc first second : List ℕ) : Type 0 where
-  pub by-wb0 : Given n (Wb0 (eventsOf b)) wb0
-  pub by-steps : Given n (ScStep (eventsOf b)) sc
+pub record Lending (t : Table) (n : ℕ) (wb0 sc first second : List ℕ) : Type 0 where
+  pub by-wb0 : Given n (Wb0 t) wb0
+  pub by-steps : Given n (ScStep t) sc
   pub room-first : n ≤ length first
   pub room-second : n ≤ length second
 

@@ -10,15 +10,17 @@ use relations::shown::shows_pair;
 ghost use Rattle.laws.specs.Witness.{PairWith};
 ghost use Rattle.findings.specs.declared.Finding.the-variants.{R};
 ghost use Rattle.findings.specs.Meant.{Finds};
+ghost use Rattle.model.specs.Relations.{Hb, Race};
 ghost use Rattle.model.specs.Findings.{Shows};
 ghost use Rattle.table.specs.Events.{eventsOf};
 ghost use Rattle.facts.specs.Sound.{Counted};
 ghost use Rattle.judge.specs.Answer.{Roomy};
-ghost use Rattle.judge.specs.Parts.{Related, Lending, PairShows, FoundAll};
+ghost use Rattle.relations.specs.Given.{Given, Pairing};
+ghost use Rattle.judge.specs.Parts.{Lending, PairShows, FoundAll};
 
 // R: the least read that is not justified.
-fn find_read(table: &[u8], n: usize, cf: &[u8], hb: &[u8], race: &[u8]) -> Found
-    requires { ⌜ Related (now table) n (now cf) (now hb) (now race) ⌝ }
+fn find_read(table: &[u8], n: usize, hb: &[u8], race: &[u8]) -> Found
+    requires { ⌜ Counted (now table) n × (Given n (Hb (eventsOf (now table))) (now hb) × Given n (Race (eventsOf (now table))) (now race)) ⌝ }
     ensures { λ r. ⌜ Finds (Shows (eventsOf (now (table .entry))) R) r ⌝ }
 {
     for r in 0..n {
@@ -31,7 +33,7 @@ fn find_read(table: &[u8], n: usize, cf: &[u8], hb: &[u8], race: &[u8]) -> Found
 
 // The least pair that shows the finding: "the search stops at the first pair that fits".
 fn find_pair(finding: Finding, table: &[u8], n: usize, cf: &[u8], hb: &[u8], race: &[u8]) -> Found
-    requires { ⌜ Related (now table) n (now cf) (now hb) (now race) ⌝ }
+    requires { ⌜ Counted (now table) n × Pairing (eventsOf (now table)) n (now cf) (now hb) (now race) ⌝ }
     ensures { λ r. ⌜ Finds (PairWith (PairShows (eventsOf (now (table .entry))) finding)) r ⌝ }
 {
     let mut found = Found::Nothing;
@@ -58,10 +60,10 @@ fn find_in(
     first: &mut [u8],
     second: &mut [u8],
 ) -> Findings
-    requires { ⌜ Related (now table) n (now cf) (now hb) (now race) × Lending (now table) n (now wb0) (now sc) (now first) (now second) ⌝ }
+    requires { ⌜ Counted (now table) n × Pairing (eventsOf (now table)) n (now cf) (now hb) (now race) × Lending (eventsOf (now table)) n (now wb0) (now sc) (now first) (now second) ⌝ }
     ensures { λ x. ⌜ FoundAll (eventsOf (now (table .entry))) (now (first .entry)) (now (first .exit)) (now (second .entry)) (now (second .exit)) x ⌝ }
 {
-    let r = find_read(table, n, cf, hb, race);
+    let r = find_read(table, n, hb, race);
     let a1 = least_cycle(wb0, n, first);
     let a2 = find_pair(Finding::A2, table, n, cf, hb, race);
     let a3 = find_pair(Finding::A3, table, n, cf, hb, race);

@@ -1,10 +1,15 @@
 -- Each relation of a well-formed table stays inside it; po and hb lead to larger numbers; a cycle has no more records than the table.
 use Prim.Native.Nat.{ℕ, _<_}
 use native.Mathlib.Omega.{arith}
+use Rattle.laws.specs.Witness.{a-pair}
 use Rattle.laws.proofs.Steps.{Within, plus-within, plus-rises}
+use Rattle.laws.proofs.Witness.{pair-shows, pair-no-record, pair-no-cycle}
+use Rattle.findings.specs.declared.Finding.{Finding}
+use Rattle.findings.specs.declared.Finding.the-variants.{R, A1, A2, A3, A4, W}
 use Rattle.model.specs.Table.{Table, Inside, Parent, Source}
 use Rattle.model.specs.Relations.{Po, AtOrAbove, equal, above, Sw, PoOrSw, by-po, by-sw, Hb, Race, Wb0, ScStep}
 use Rattle.model.specs.WellFormed.{WellFormed}
+use Rattle.model.specs.Findings.{ShowsA2, ShowsA3, ShowsW, Shows}
 use Rattle.model.proofs.Facts.{location-left, location-right, write-inside, sc-inside, parent-inside, parent-earlier, source-inside, source-is-earlier-write}
 
 -- what comes with a relation that stays inside stays inside
@@ -60,6 +65,15 @@ module _ {t : Table} (ok : WellFormed t) where
 
   pub sc-step-within : Within (t .count) (ScStep t)
   sc-step-within = record { left = λ {a} s. sc-inside ok a (s .sc-a); right = λ {a} {b} s. sc-inside ok b (s .sc-b) }
+
+  -- two records that show a finding
+  pub pair-within : (f : Finding) → Within (t .count) (λ p q. Shows t f (a-pair (record { first = p; second = q })))
+  pair-within R = record { left = λ s. absurd (pair-no-record s); right = λ s. absurd (pair-no-record s) }
+  pair-within A1 = record { left = λ s. absurd (pair-no-cycle s); right = λ s. absurd (pair-no-cycle s) }
+  pair-within A2 = within-by (λ p q s. pair-shows {R = ShowsA2 t} s .before) hb-within
+  pair-within A3 = within-by (λ p q s. pair-shows {R = ShowsA3 t} s .before) hb-within
+  pair-within A4 = record { left = λ s. absurd (pair-no-cycle s); right = λ s. absurd (pair-no-cycle s) }
+  pair-within W = within-by (λ p q s. pair-shows {R = ShowsW t} s .race) race-within
 
   -- ---- po and hb lead to larger numbers
 
