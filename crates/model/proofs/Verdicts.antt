@@ -34,21 +34,21 @@ module _ {t : Table} {w : Finding → Option Witness} (least : (f : Finding) →
 
 -- ---- by computation
 
-abbrev elseIf : Option Witness → Verdict → Verdict → Verdict
-elseIf (some v) x y = x
-elseIf none x y = y
+abbrev ifFound : Option Witness → Verdict → Verdict → Verdict
+ifFound (some v) x y = x
+ifFound none x y = y
 
 -- inconsistent if one of these findings has a witness
 abbrev otherwise : (Finding → Option Witness) → List Finding → Verdict
 otherwise w [] = Consistent
 otherwise w (f ∷ fs) =
     let rest = otherwise w fs in
-    elseIf (w f) Inconsistent rest
+    ifFound (w f) Inconsistent rest
 
 abbrev pub verdictBy : (Finding → Option Witness) → Verdict
 verdictBy w =
     let rest = otherwise w inOrder in
-    elseIf (w W) Undefined rest
+    ifFound (w W) Undefined rest
 
 module _ {t : Table} {w : Finding → Option Witness} (least : (f : Finding) → LeastWitness (Shows t f) (w f)) where
   -- where W has no witness
@@ -63,13 +63,13 @@ module _ {t : Table} {w : Finding → Option Witness} (least : (f : Finding) →
 
       go :
           (x : Option Witness) → w f ≡ x → ((((place : ℕ) → getD (map w fs) place none ≡ none) → VerdictIs t Consistent) → VerdictIs t (otherwise w fs))
-          → VerdictIs t (elseIf x Inconsistent (otherwise w fs))
+          → VerdictIs t (ifFound x Inconsistent (otherwise w fs))
       go (some v) e rest = inconsistent-by least f no-W e
       go none e rest = rest (λ h. all (each e h))
 
   pub verdict-is : VerdictIs t (verdictBy w)
   verdict-is = go (w W) refl
     where
-      go : (x : Option Witness) → w W ≡ x → VerdictIs t (elseIf x Undefined (otherwise w inOrder))
+      go : (x : Option Witness) → w W ≡ x → VerdictIs t (ifFound x Undefined (otherwise w inOrder))
       go (some v) e = undefined-by least e
       go none e = otherwise-is e inOrder (λ h. consistent-by least (λ f. sym (at-place w none f) ∙ h (placeOf f)))
