@@ -5,7 +5,6 @@ use Prim.Native.Nat.{ℕ, zero, suc, _+_, _*_, _<_, _≤_}
 use native.Mathlib.Omega.{arith}
 use lib.ListN.{length, take, drop, length-append, length-drop}
 use lib.Seq.{take-at, drop-at, drop-drop}
-use Rattle.events.specs.declared.Record.{Record}
 use Rattle.limits.specs.Limit.{limit}
 use Rattle.record.specs.Form.{encode, overwritten}
 use Rattle.record.specs.Fits.{Fits}

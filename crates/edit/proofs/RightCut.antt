@@ -3,15 +3,14 @@ use mathlib.Core.Path.{_≡_, refl, sym, subst, subst⁻¹, ap, _∙_}
 use mathlib.Core.Bool.{Bool}
 use mathlib.Core.List.{List}
 use mathlib.Core.Option.{none}
-use Prim.Native.Nat.{ℕ, zero, suc, _*_, _%_, _<_}
+use Prim.Native.Nat.{ℕ, zero, suc, _*_, _<_}
 use native.Mathlib.Omega.{arith}
 use native.Mathlib.Decide.{decLt}
 use lib.Dec.{T}
 use lib.ListN.{length, take, drop}
 use lib.Seq.{take-at}
 use Rattle.laws.specs.Least.{Least, LeastNumber}
-use Rattle.laws.proofs.Says.{by-dec, says-T, says-eq, says-le, says-not, says-and, says-dec}
-use Rattle.limits.specs.Limit.{limit}
+use Rattle.laws.proofs.Says.{by-dec, says-T, says-dec}
 use Rattle.record.specs.declared.Decoded.the-variants.{Good}
 use Rattle.record.specs.Form.{parentByte, sourceByte, decode, part}
 use Rattle.events.specs.Words.{isWrite}
@@ -26,6 +25,7 @@ use Rattle.table.specs.declared.Tested.the-variants as tested
 use Rattle.table.specs.Events.{countOf, eventsOf}
 use Rattle.table.specs.Test.{lengthOk, Passes, RecordsAnswer, sound, TestAnswer, records}
 use Rattle.table.proofs.Exact.{at-decoded}
+use Rattle.table.proofs.Front.{says-right-length}
 use Rattle.table.proofs.WellFormed.{sound-count, events-end}
 use Rattle.facts.specs.Sound.{SoundTable}
 use Rattle.facts.proofs.Promise.{sound-table}
@@ -153,7 +153,7 @@ module _ (b : List ℕ) (k : ℕ → Bool) (S : SoundTable b) where
         let most = new-at-most k (t .count) in
         let few = S .few in
         let count : countOf cut ≡ newNumber k (t .count) = omega arith in
-        let right : T (lengthOk (length cut)) = says-and (says-not (says-eq (length cut) 0)) (says-and (says-eq (length cut % 16) 0) (says-le (length cut) (16 * limit))) .from (omega arith) in
+        let right : T (lengthOk (length cut)) = says-right-length (length cut) .from (omega arith) in
         records right
         (subst (λ (n : ℕ). RecordsAnswer cut (tested.Sound n)) count (sound (λ i h. cut-passes i (omega (arith, count)))))
 

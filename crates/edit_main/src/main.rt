@@ -27,10 +27,11 @@ fn number(n: usize) {
 }
 
 fn say_refusal(r: Refusal) {
+    let told = r.told();
     text(b" refused ");
-    number(r.number());
+    number(told.number);
     text(b" at ");
-    number(r.place());
+    number(told.place);
 }
 
 fn say_byte(b: u8) {

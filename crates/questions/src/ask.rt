@@ -12,7 +12,7 @@ use edit::cutting::cut;
 use events::Record;
 use lines::Wrote;
 use lines::write_answer;
-use table::Asked;
+use table::FetchTest;
 use table::fetch;
 use table::refusal_of_fetch;
 
@@ -127,8 +127,8 @@ pub fn take_append() -> bool {
 
 fn say_fetch_refusal(table: &[u8], asked: usize) -> bool {
     match refusal_of_fetch(table, asked) {
-        Asked::Given => say(b"given\n"),
-        Asked::Refused(r) => say_refusal(r),
+        FetchTest::Given => say(b"given\n"),
+        FetchTest::Refused(r) => say_refusal(r),
     }
 }
 

@@ -11,9 +11,10 @@ pub fn say_number(word: &[u8], n: usize) -> bool {
 }
 
 pub fn say_refusal(r: Refusal) -> bool {
+    let told = r.told();
     say(b"refused ")
-        & io::print_decimal(libc::STDOUT_FILENO, r.number() as u64)
-        & say_number(b" at ", r.place())
+        & io::print_decimal(libc::STDOUT_FILENO, told.number as u64)
+        & say_number(b" at ", told.place)
 }
 
 fn wide(x: u8) -> u64 {

@@ -6,7 +6,8 @@ use native.Mathlib.Omega.{arith}
 use lib.Dec.{T}
 use lib.ListN.{length, take}
 use lib.Seq.{length-take-le, take-all}
-use Rattle.laws.proofs.Says.{says-eq, says-le, says-not, says-and}
+use Rattle.laws.specs.Says.{Says}
+use Rattle.laws.proofs.Says.{says-iff, says-eq, says-le, says-not, says-and}
 use Rattle.record.specs.Form.{part}
 use Rattle.record.specs.Fits.{Bytes}
 use Rattle.record.proofs.Parts.{part-take, bytes-take, whole-part}
@@ -46,10 +47,15 @@ pub record RightLength (len : ℕ) : Type 0 where
   pub whole-records : len % 16 ≡ 0
   pub within : len ≤ 16 * limit
 
+pub says-right-length : (len : ℕ) → Says (lengthOk len) (RightLength len)
+says-right-length len =
+    says-iff
+    (λ (a, (b, c)). record { some-bytes = a; whole-records = b; within = c })
+    (λ r. (r .some-bytes, (r .whole-records, r .within)))
+    (says-and (says-not (says-eq len 0)) (says-and (says-eq (len % 16) 0) (says-le len (16 * limit))))
+
 pub right-length : (len : ℕ) → T (lengthOk len) → RightLength len
-right-length len h =
-    let (a, (b, c)) = says-and (says-not (says-eq len 0)) (says-and (says-eq (len % 16) 0) (says-le len (16 * limit))) .to h in
-    record { some-bytes = a; whole-records = b; within = c }
+right-length len = says-right-length len .to
 
 pub front-whole : (b : List ℕ) → T (lengthOk (length b)) → take (16 * countOf b) b ≡ b
 front-whole b h =

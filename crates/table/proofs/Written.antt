@@ -1,12 +1,11 @@
 -- Round trips of a whole table: written out and read back it is the same events, and read and written back the same bytes.
 use mathlib.Core.Path.{_≡_, refl, sym, subst, subst⁻¹, ap, ap₂, _∙_}
 use mathlib.Core.List.{List, _++_}
-use Prim.Native.Nat.{ℕ, zero, suc, _+_, _*_, _%_, _<_, _≤_}
+use Prim.Native.Nat.{ℕ, zero, suc, _+_, _*_, _<_, _≤_}
 use native.Mathlib.Omega.{arith}
 use native.Mathlib.Decide.{decLt}
 use lib.Dec.{T}
 use lib.ListN.{length, take, length-append}
-use Rattle.laws.proofs.Says.{says-eq, says-le, says-not, says-and}
 use Rattle.events.specs.declared.Record.{Record}
 use Rattle.record.specs.declared.Decoded.the-variants.{Good}
 use Rattle.record.specs.Form.{decode, encode, part}
@@ -20,7 +19,7 @@ use Rattle.table.specs.Events.{countOf, eventsOf, written, bytesOf}
 use Rattle.limits.specs.Limit.{limit}
 use Rattle.table.specs.Test.{lengthOk, Passes, RecordsAnswer, sound, TestAnswer, records}
 use Rattle.table.proofs.Exact.{at-decoded, decoded-at}
-use Rattle.table.proofs.Front.{front-whole}
+use Rattle.table.proofs.Front.{says-right-length, front-whole}
 use Rattle.table.proofs.WellFormed.{test-pass, events-end, sound-count}
 
 -- ---- the records one after another
@@ -84,7 +83,7 @@ written-sound t well fits small =
     let long = written-length (t .at) (t .count) in
     let some = well .some-record in
     let count = written-count t (well .ends) fits in
-    let right : T (lengthOk (length (bytesOf t))) = says-and (says-not (says-eq (length (bytesOf t)) 0)) (says-and (says-eq (length (bytesOf t) % 16) 0) (says-le (length (bytesOf t)) (16 * limit))) .from (omega arith) in
+    let right : T (lengthOk (length (bytesOf t))) = says-right-length (length (bytesOf t)) .from (omega arith) in
     records right
     (subst (λ (k : ℕ). RecordsAnswer (bytesOf t) (Sound k)) count (sound (written-passes t (well .ends) fits (well .sound))))
 

@@ -9,7 +9,7 @@ use events::Record;
 use events::Value;
 use libc::STDOUT_FILENO;
 use refusals::Refusal;
-use table::Asked;
+use table::FetchTest;
 use table::Tested;
 
 // E2 of document 01, a record to a line.
@@ -105,10 +105,11 @@ fn number(n: usize) {
 }
 
 fn say_refusal(r: Refusal) {
+    let told = r.told();
     text(b" refused ");
-    number(r.number());
+    number(told.number);
     text(b" at ");
-    number(r.place());
+    number(told.place);
     text(b"\n");
 }
 
@@ -142,8 +143,8 @@ fn say_fetch(table: &[u8], n: usize) {
     text(b":");
     say_bytes(table::fetch(table, n));
     match table::refusal_of_fetch(table, n) {
-        Asked::Given => text(b" given\n"),
-        Asked::Refused(r) => say_refusal(r),
+        FetchTest::Given => text(b" given\n"),
+        FetchTest::Refused(r) => say_refusal(r),
     }
 }
 

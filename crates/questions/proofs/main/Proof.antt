@@ -1,4 +1,4 @@
--- `main`: the turns fall.
+-- `questions::main` is safe and ends: the turns fall.
 use native.Mathlib.Omega.{arith}
 use borrow.Author.Needs.{needs}
 use Rattle.questions.proofs.main.Statement.{statement}

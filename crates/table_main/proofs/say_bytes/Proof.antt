@@ -1,4 +1,4 @@
--- `table_main::say_bytes` is safe and ends.
+-- `table_main::say_bytes` is safe and ends: one byte after another.
 use mathlib.Core.Path.{_≡_}
 use Prim.Native.Nat.{_-_, _≤_}
 use native.Mathlib.Omega.{arith}

@@ -13,18 +13,21 @@ use Rattle.edit.proofs.appending.answer_for_new.Tie as tie
 returns : tie.Need-returns
 returns c = full (c .before .before .pre) (c .if1 .taken) refl
 
-ready : (c : tie.After-check-new) → Ready (now (c .before .before .before .before .args .buffer)) (c .before .before .before .before .args .used)
-ready c = record {
-  sound-use = c .before .before .before .before .pre;
-  not-full = c .before .before .if1 .left;
-  room = c .before .if2 .taken;
-}
+ready :
+    (c : tie.After-check-new) →
+    let entry = c .before .before .before .before in
+    Ready (now (entry .args .buffer)) (entry .args .used)
+ready c =
+    let entry = c .before .before .before .before in
+    record { sound-use = entry .pre; not-full = c .before .before .if1 .left; room = c .before .if2 .taken }
 
 checked :
-    (c : tie.After-check-new) → CheckAnswer (extended (now (c .before .before .before .before .args .buffer)) (c .before .before .before .before .args .used) (c .before .before .before .before .args .new)) (c .before .before .before .before .args .used) (c .check-new .result)
+    (c : tie.After-check-new) →
+    let a = c .before .before .before .before .args in
+    CheckAnswer (extended (now (a .buffer)) (a .used) (a .new)) (a .used) (c .check-new .result)
 checked c =
-    let s = c .before .before .before .before in
-    c .check-new .ensures .exact (in-use-pass (s .pre))
+    let entry = c .before .before .before .before in
+    c .check-new .ensures .exact (in-use-pass (entry .pre))
 
 returns-2 : tie.Need-returns-2
 returns-2 c = good (ready (c .before .before)) (passes-of (rw (c .enum-told .given .1) at (checked (c .before .before))))

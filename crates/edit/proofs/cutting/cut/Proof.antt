@@ -6,7 +6,9 @@ use Rattle.edit.proofs.cutting.cut.Statement.{statement}
 use Rattle.edit.proofs.cutting.cut.Tie as tie
 
 cut-sound-requires : tie.Need-cut-sound-requires
-cut-sound-requires c κs = rw (c .before .before .count .given .1) at (c .before .before .before .before .test .ensures)
+cut-sound-requires c κs =
+    let told = c .before .before in
+    rw (told .count .given .1) at (told .before .before .test .ensures)
 
 returns : tie.Need-returns
 returns c = record { decided = bad-table (rw (c .before .r .given .1) at (c .before .before .before .test .ensures)); bytes = refl }

@@ -9,21 +9,21 @@ use Rattle.edit.proofs.cutting.cut_by.Tie as tie
 
 least-lacking-requires : tie.Need-least-lacking-requires
 least-lacking-requires c κs =
-    let s = c .before .before .before in
-    (counted (now (s .args .table)) (s .args .count) (s .pre .selected .sound), s .pre .room)
+    let entry = c .before .before .before in
+    (counted (now (entry .args .table)) (entry .args .count) (entry .pre .selected .sound), entry .pre .room)
 
 cut-complete-requires : tie.Need-cut-complete-requires
 cut-complete-requires c κs =
     let asked = c .before .before .before in
-    let s = asked .before .before .before .before in
-    record { whole = record { selected = s .pre .selected; not-10 = rw (c .before .enum-told .given .1) at (asked .least-lacking .ensures) }; room = s .pre .room }
+    let entry = asked .before .before .before .before in
+    record { whole = record { selected = entry .pre .selected; not-10 = rw (c .before .enum-told .given .1) at (asked .least-lacking .ensures) }; room = entry .pre .room }
 
 returns : tie.Need-returns
 returns c =
     let asked = c .before .before .before in
-    let s = asked .before .before .before .before in
+    let entry = asked .before .before .before .before in
     record {
-      decided = lacking (s .pre .selected) (rw (c .before .n .given .1) at (asked .least-lacking .ensures)) refl;
+      decided = lacking (entry .pre .selected) (rw (c .before .n .given .1) at (asked .least-lacking .ensures)) refl;
       bytes = refl;
     }
 

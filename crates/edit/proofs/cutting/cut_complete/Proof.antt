@@ -10,28 +10,28 @@ use Rattle.edit.proofs.Answering.{counted, kept-answer, no-room-answer}
 use Rattle.edit.proofs.cutting.cut_complete.Statement.{statement}
 use Rattle.edit.proofs.cutting.cut_complete.Tie as tie
 
-sound : (s : tie.Start) → Counted (now (s .args .table)) (s .args .count)
-sound s = counted (now (s .args .table)) (s .args .count) (s .pre .whole .selected .sound)
+sound : (entry : tie.Start) → Counted (now (entry .args .table)) (entry .args .count)
+sound entry = counted (now (entry .args .table)) (entry .args .count) (entry .pre .whole .selected .sound)
 
 number-requires : tie.Need-number-requires
 number-requires c κs =
-    let s = c .before .before .before .before in
-    record { few = few (sound s); column = s .pre .room; room = few (sound s) }
+    let entry = c .before .before .before .before in
+    record { few = few (sound entry); column = entry .pre .room; room = few (sound entry) }
 
 mul-if1 : tie.Need-mul-if1
 mul-if1 c =
-    let s = c .before .before .before .before .before .before in
-    omega (arith, c .before .number .ensures .next, new-at-most (keptBy (now (s .args .kept))) (s .args .count), few (sound s))
+    let entry = c .before .before .before .before .before .before in
+    omega (arith, c .before .number .ensures .next, new-at-most (keptBy (now (entry .args .kept))) (entry .args .count), few (sound entry))
 
 write-kept-requires : tie.Need-write-kept-requires
 write-kept-requires c κs =
     let numbered = c .before .before .before .before in
-    let s = numbered .before .before .before .before .before in
+    let entry = numbered .before .before .before .before .before in
     record {
-      table = sound s;
-      column = s .pre .room;
+      table = sound entry;
+      column = entry .pre .room;
       numbered = numbered .number .ensures .each;
-      columns = omega (arith, few (sound s));
+      columns = omega (arith, few (sound entry));
       room = omega (arith, c .before .before .if1 .taken, numbered .number .ensures .next);
     }
 
@@ -40,14 +40,14 @@ returns c =
     let written = c .before .before in
     let tested = written .before .before .before in
     let numbered = tested .before .before in
-    let s = numbered .before .before .before .before .before in
-    kept-answer (s .pre .whole) (numbered .number .ensures .next) (tested .if1 .taken) (written .write-kept .ensures)
+    let entry = numbered .before .before .before .before .before in
+    kept-answer (entry .pre .whole) (numbered .number .ensures .next) (tested .if1 .taken) (written .write-kept .ensures)
 
 returns-2 : tie.Need-returns-2
 returns-2 c =
     let numbered = c .before .before in
-    let s = numbered .before .before .before .before .before in
-    no-room-answer (s .pre .whole) (numbered .number .ensures .next) (c .if1 .left)
+    let entry = numbered .before .before .before .before .before in
+    no-room-answer (entry .pre .whole) (numbered .number .ensures .next) (c .if1 .left)
 
 pub cut-complete-spec : {M : Type 1} → statement M
 cut-complete-spec =

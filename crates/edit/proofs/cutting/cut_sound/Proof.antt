@@ -13,23 +13,23 @@ use Rattle.edit.proofs.cutting.cut_sound.Tie as tie
 
 choose-requires : tie.Need-choose-requires
 choose-requires c κs =
-    let s = c .before .before .before in
-    few (counted (now (s .args .table)) (s .args .count) (s .pre))
+    let entry = c .before .before .before in
+    few (counted (now (entry .args .table)) (entry .args .count) (entry .pre))
 
 returns : tie.Need-returns
 returns c =
     let chosen = c .before .before in
-    let s = chosen .before .before .before .before in
-    record { decided = bad-selection (s .pre) (said (chosen .choose .ensures .refused) (c .if1 .taken)) refl; bytes = refl }
+    let entry = chosen .before .before .before .before in
+    record { decided = bad-selection (entry .pre) (said (chosen .choose .ensures .refused) (c .if1 .taken)) refl; bytes = refl }
 
 cut-by-requires : tie.Need-cut-by-requires
 cut-by-requires c κs =
     let chosen = c .before .before .before .before in
-    let s = chosen .before .before .before .before in
+    let entry = chosen .before .before .before .before in
     let fine = denied (chosen .choose .ensures .refused) (c .before .before .if1 .left) in
     record {
-      selected = selected-by (same-choice (zeros limit) (chosen .choose .ensures) fine) (record { sound = s .pre; not-9 = fine });
-      room = omega (arith, few (counted (now (s .args .table)) (s .args .count) (s .pre)));
+      selected = selected-by (same-choice (zeros limit) (chosen .choose .ensures) fine) (record { sound = entry .pre; not-9 = fine });
+      room = omega (arith, few (counted (now (entry .args .table)) (entry .args .count) (entry .pre)));
     }
 
 returns-2 : tie.Need-returns-2

@@ -22,16 +22,24 @@ low c =
     omega (arith, l .loop .inv .2 .next, new-at-most (keptBy (now (l .before .before .before .args .kept))) (l .loop .n))
 
 cast-numbers : tie.Need-cast-numbers Inv-loop μ-loop
-cast-numbers c = omega (arith, low c, c .before .before .before .before .pre .few)
+cast-numbers c =
+    let entry = c .before .before .before .before in
+    omega (arith, low c, entry .pre .few)
 
 slice-write-numbers : tie.Need-slice-write-numbers Inv-loop μ-loop
-slice-write-numbers c = omega (arith, c .before .before .before .before .pre .room)
+slice-write-numbers c =
+    let entry = c .before .before .before .before in
+    omega (arith, entry .pre .room)
 
 shared-slice-read-one-more-if : tie.Need-shared-slice-read-one-more-if Inv-loop μ-loop
-shared-slice-read-one-more-if c = omega (arith, c .before .before .before .before .before .pre .column)
+shared-slice-read-one-more-if c =
+    let entry = c .before .before .before .before .before in
+    omega (arith, entry .pre .column)
 
 one-more-if-requires : tie.Need-one-more-if-requires Inv-loop μ-loop
-one-more-if-requires c κs = omega (arith, low (c .before), c .before .before .before .before .before .pre .few)
+one-more-if-requires c κs =
+    let entry = c .before .before .before .before .before in
+    omega (arith, low (c .before), entry .pre .few)
 
 loop-again : tie.Need-loop-again Inv-loop μ-loop
 loop-again c =
@@ -40,7 +48,8 @@ loop-again c =
 
 returns : tie.Need-returns Inv-loop μ-loop
 returns c =
-    let e : c .before .loop .n ≡ c .before .before .before .before .args .count = omega arith in
+    let entry = c .before .before .before .before in
+    let e : c .before .loop .n ≡ entry .args .count = omega arith in
     rw e at (c .before .loop .inv .2)
 
 pub number-spec : {M : Type 1} → statement M

@@ -14,18 +14,22 @@ use Rattle.edit.proofs.writing.renumbered_bytes.Statement.{statement}
 use Rattle.edit.proofs.writing.renumbered_bytes.Tie as tie
 
 relinked-requires : tie.Need-relinked-requires
-relinked-requires c κs = c .before .before .before .before .before .before .pre .parent
+relinked-requires c κs =
+    let entry = c .before .before .before .before .before .before in
+    entry .pre .parent
 
 relinked-requires-2 : tie.Need-relinked-requires-2
-relinked-requires-2 c κs = c .before .before .before .before .before .before .before .before .pre .source
+relinked-requires-2 c κs =
+    let entry = c .before .before .before .before .before .before .before .before in
+    entry .pre .source
 
 returns : tie.Need-returns
 returns c =
     let copied = c .before .before .before .before .before in
-    let s = copied .before .before .before .before in
-    let old = now (s .args .old) in
-    let f = numberIn (now (s .args .numbers)) in
-    simp (c .relinked2 .ensures, c .before .before .relinked .ensures, copied .copy .ensures .1, s .pre .long, take-all 16 old (omega (arith, s .pre .long)))
+    let entry = copied .before .before .before .before in
+    let old = now (entry .args .old) in
+    let f = numberIn (now (entry .args .numbers)) in
+    simp (c .relinked2 .ensures, c .before .before .relinked .ensures, copied .copy .ensures .1, entry .pre .long, take-all 16 old (omega (arith, entry .pre .long)))
     (ap (λ (l : List ℕ). set (set l 5 (renumberedLink f (parentByte old))) 6 (renumberedLink f (sourceByte old))) (append-nil old))
 
 pub renumbered-bytes-spec : {M : Type 1} → statement M

@@ -23,34 +23,38 @@ unfolding keptBytes
 loop-holds c = (omega arith, refl)
 
 shared-slice-read-if1 : tie.Need-shared-slice-read-if1 Inv-loop μ-loop
-shared-slice-read-if1 c = omega (arith, c .before .before .before .before .before .before .before .pre .column)
+shared-slice-read-if1 c =
+    let entry = c .before .before .before .before .before .before .before in
+    omega (arith, entry .pre .column)
 
 write-record-requires : tie.Need-write-record-requires Inv-loop μ-loop
 write-record-requires c κs =
     let l = c .before .before .before .before in
-    let kept = now (l .before .before .before .before .before .args .kept) in
-    placing (l .before .before .before .before .before .pre) (c .before .before .before .loop-test .taken) (l .loop .inv .1)
+    let entry = l .before .before .before .before .before in
+    let kept = now (entry .args .kept) in
+    placing (entry .pre) (c .before .before .before .loop-test .taken) (l .loop .inv .1)
     (says-eq (numberIn kept (l .loop .n)) 1 .from (c .before .if1 .taken))
 
 loop-again : tie.Need-loop-again Inv-loop μ-loop
 loop-again c =
     let l = c .before .before .before in
-    let s = l .before .before .before .before .before in
-    let is = says-eq (numberIn (now (s .args .kept)) (l .loop .n)) 1 in
+    let entry = l .before .before .before .before .before in
+    let is = says-eq (numberIn (now (entry .args .kept)) (l .loop .n)) 1 in
     let h = c .before .before .loop-test .taken in
     ⊎-elim
-    (λ w. (omega arith, w .5 ∙ one-written (s .pre) h (l .loop .inv .1) (is .from (w .0 .taken)) (w .2 .ensures)))
-    (λ w. (omega arith, w .1 ∙ none-written (s .pre) h (l .loop .inv .1) (λ x. w .0 .left (is .to x))))
+    (λ w. (omega arith, w .5 ∙ one-written (entry .pre) h (l .loop .inv .1) (is .from (w .0 .taken)) (w .2 .ensures)))
+    (λ w. (omega arith, w .1 ∙ none-written (entry .pre) h (l .loop .inv .1) (λ x. w .0 .left (is .to x))))
     (c .if1 .came)
 
 same-length : tie.Need-same-length Inv-loop μ-loop
 same-length c =
-    let s = c .before .before .before .before .before .before in
-    ap length (c .before .loop .inv .1) ∙ written-length (s .pre) (c .before .loop .inv .0)
+    let entry = c .before .before .before .before .before .before in
+    ap length (c .before .loop .inv .1) ∙ written-length (entry .pre) (c .before .loop .inv .0)
 
 returns : tie.Need-returns Inv-loop μ-loop
 returns c =
-    let e : c .before .loop .n ≡ c .before .before .before .before .before .before .args .count = omega arith in
+    let entry = c .before .before .before .before .before .before in
+    let e : c .before .loop .n ≡ entry .args .count = omega arith in
     rw e at (c .before .loop .inv .1)
 
 pub write-kept-spec : {M : Type 1} → statement M

@@ -14,11 +14,11 @@ use Rattle.edit.proofs.writing.write_part.Tie as tie
 returns : tie.Need-returns
 returns c =
     let copied = c .before .before in
-    let s = copied .before .before .before .before in
-    let a = s .args in
+    let entry = copied .before .before .before .before in
+    let a = entry .args in
     let part = take 16 (drop (16 * a .n) (now (a .out))) in
     let whole : drop 16 part ≡ [] = drop-of-length-le part {i = 16} (simp length-take (omega arith)) in
-    simp (copied .copy .ensures .1, s .pre .1, add-sub-cancel-left (16 * a .n) 16, whole, take-all 16 (now (a .new)) (omega arith))
+    simp (copied .copy .ensures .1, entry .pre .1, add-sub-cancel-left (16 * a .n) 16, whole, take-all 16 (now (a .new)) (omega arith))
     (ap (λ (l : List ℕ). take (16 * a .n) (now (a .out)) ++ (l ++ drop 16 (drop (16 * a .n) (now (a .out))))) (append-nil (now (a .new))))
 
 pub write-part-spec : {M : Type 1} → statement M

@@ -13,13 +13,14 @@ use Rattle.edit.proofs.writing.write_record.Tie as tie
 
 renumbered-bytes-requires : tie.Need-renumbered-bytes-requires
 renumbered-bytes-requires c κs =
-    let s = c .before .before .before .before in
-    rw (add-sub-cancel-left (16 * s .args .n) 16) (s .pre .links)
+    let entry = c .before .before .before .before in
+    rw (add-sub-cancel-left (16 * entry .args .n) 16) (entry .pre .links)
 
 returns : tie.Need-returns
 returns c =
     let made = c .before .before .before .before .before .before in
-    let a = made .before .before .before .before .before .args in
+    let entry = made .before .before .before .before .before in
+    let a = entry .args in
     let f = numberIn (now (a .numbers)) in
     c .before .before .write-part .ensures
     ∙ ap (overwritten (now (a .out)) (f (a .n)))

@@ -1,4 +1,4 @@
--- `say_bytes`: one byte after another.
+-- `say::say_bytes` is safe and ends: one byte after another.
 use Prim.Native.Nat.{_≤_, _-_}
 use native.Mathlib.Omega.{arith}
 use borrow.Author.Needs.{needs}
