@@ -1,7 +1,8 @@
 // The findings of document 01, what a search finds of one, and the verdict, as values.
 ghost use mathlib.Core.Path.{_≡_};
 ghost use Prim.Native.Nat.{_≤_};
-ghost use lib.ListN.{take};
+ghost use mathlib.Core.List.{[], _∷_};
+ghost use lib.ListN.{take, drop};
 ghost use Rattle.findings.specs.Family.{findingAt, nameOf, there, foundOf};
 
 // The six findings, in the order of the report.
@@ -63,8 +64,9 @@ impl Finding {
         }
     }
 
+    // Its name; a byte past it is 0.
     pub fn name(self) -> Name
-        ensures { λ r. ⌜ (take (r .length) (r .bytes) ≡ nameOf self) × (r .length ≤ 2) ⌝ }
+        ensures { λ r. ⌜ (take (r .length) (r .bytes) ≡ nameOf self) × (r .length ≤ 2) × (drop (r .length) (r .bytes) ≡ drop (r .length) (0 ∷ 0 ∷ [])) ⌝ }
     {
         match self {
             Finding::R => Name {
