@@ -104,6 +104,29 @@ decimal-more n h =
 pub decimal-longer : (n : ℕ) → 10 ≤ n → length (decimal n) ≡ length (decimal (n / 10)) + 1
 decimal-longer n h = ap length (decimal-more n h) ∙ length-append (decimal (n / 10)) ((48 + n % 10) ∷ [])
 
+-- a number in decimal where it has room: one digit, or the digits of n / 10 and then the last
+module _ (before : List ℕ) (at n : ℕ) (room : at + length (decimal n) ≤ length before) where
+  module _ (small : n < 10) where
+    pub one-room : at + 1 ≤ length before
+    one-room = omega (arith, ap length (decimal-one n small))
+
+    pub one-digit : {d : ℕ} {after : List ℕ} {r : ℕ} → d ≡ 48 + n % 10 → Written before at (d ∷ []) after r → Written before at (decimal n) after r
+    one-digit is w = written-text (ap (λ (d : ℕ). d ∷ []) is ∙ sym (decimal-one n small)) w
+
+  module _ (large : 10 ≤ n) where
+    pub tens-room : at + length (decimal (n / 10)) ≤ length before
+    tens-room = omega (arith, decimal-longer n large)
+
+    module _ {mid : List ℕ} {next : ℕ} (tens : Written before at (decimal (n / 10)) mid next) where
+      pub last-room : next + 1 ≤ length mid
+      last-room = omega (arith, decimal-longer n large, tens .next, written-length tens-room tens)
+
+      pub last-digit : {d : ℕ} {after : List ℕ} {r : ℕ} → d ≡ 48 + n % 10 → Written mid next (d ∷ []) after r → Written before at (decimal n) after r
+      last-digit {d} is w = written-text text (written-then (omega (arith, ap length text)) tens w)
+        where
+          text : decimal (n / 10) ++ (d ∷ []) ≡ decimal n
+          text = ap (λ (x : ℕ). decimal (n / 10) ++ (x ∷ [])) is ∙ sym (decimal-more n large)
+
 pub spaced-more : (l : List ℕ) (n : ℕ) → spacedEach (l ++ (n ∷ [])) ≡ spacedEach l ++ spaced n
 spaced-more [] n = append-nil (spaced n)
 spaced-more (m ∷ l) n = ap (λ (x : List ℕ). spaced m ++ x) (spaced-more l n) ∙ sym (append-assoc (spaced m) (spacedEach l) (spaced n))

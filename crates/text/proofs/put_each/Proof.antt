@@ -1,4 +1,4 @@
--- `put_each`: the first i numbers stand, each after a space.
+-- `put_each` meets its contract: in the loop the first i numbers stand, each after a space.
 use Prim.Native.Nat.{ℕ, _≤_, _-_, _+_}
 use mathlib.Core.Path.{_≡_, sym, ap, subst, _∙_}
 use native.Mathlib.Omega.{arith}
