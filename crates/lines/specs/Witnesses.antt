@@ -38,5 +38,6 @@ bufferOf W first second = first
 abbrev pub witnesses : Findings → List ℕ → List ℕ → Finding → Option Witness
 witnesses x first second f = witnessIn (foundOf x f) (bufferOf f first second)
 
+-- with all records of every cycle there
 pub record AllWhole (x : Findings) (first second : List ℕ) : Type 0 where
   pub whole : (f : Finding) → Whole (foundOf x f) (bufferOf f first second)

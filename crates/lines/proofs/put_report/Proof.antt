@@ -15,8 +15,8 @@ use Rattle.lines.proofs.put_report.Tie as tie
 abbrev count : ℕ → List ℕ
 count n = line eventsWord (spaced n)
 
-abbrev each : Findings → List ℕ → List ℕ → List ℕ
-each x first second = linesOf (witnesses x first second) inOrder
+abbrev lines : Findings → List ℕ → List ℕ → List ℕ
+lines x first second = linesOf (witnesses x first second) inOrder
 
 abbrev last : Verdict → List ℕ
 last verdict = line verdictWord (verdictText verdict)
@@ -26,7 +26,7 @@ unfolding reportText
 events-line-requires c κs =
     let entry = c .before .before .before .before in
     let a = entry .args in
-    first-room (a .out .now) 0 (count (a .events)) (each (a .x) (a .first .now) (a .second .now)) (last (a .verdict)) (entry .pre .0)
+    first-room (a .out .now) 0 (count (a .events)) (lines (a .x) (a .first .now) (a .second .now)) (last (a .verdict)) (entry .pre .0)
 
 put-findings-requires : tie.Need-put-findings-requires
 unfolding reportText
@@ -34,7 +34,7 @@ put-findings-requires c κs =
     let events = c .before .before .before in
     let entry = events .before .before .before .before .before in
     let a = entry .args in
-    (second-room (a .out .now) 0 (count (a .events)) (each (a .x) (a .first .now) (a .second .now)) (last (a .verdict)) (entry .pre .0) (events .events-line .ensures), entry .pre .1)
+    (second-room (a .out .now) 0 (count (a .events)) (lines (a .x) (a .first .now) (a .second .now)) (last (a .verdict)) (entry .pre .0) (events .events-line .ensures), entry .pre .1)
 
 verdict-line-requires : tie.Need-verdict-line-requires
 unfolding reportText
@@ -43,7 +43,7 @@ verdict-line-requires c κs =
     let events = findings .before .before .before .before in
     let entry = events .before .before .before .before .before in
     let a = entry .args in
-    third-room (a .out .now) 0 (count (a .events)) (each (a .x) (a .first .now) (a .second .now)) (last (a .verdict)) (entry .pre .0) (events .events-line .ensures) (findings .put-findings .ensures)
+    third-room (a .out .now) 0 (count (a .events)) (lines (a .x) (a .first .now) (a .second .now)) (last (a .verdict)) (entry .pre .0) (events .events-line .ensures) (findings .put-findings .ensures)
 
 returns : tie.Need-returns
 unfolding reportText
@@ -53,7 +53,7 @@ returns c =
     let events = findings .before .before .before .before in
     let entry = events .before .before .before .before .before in
     let a = entry .args in
-    all-three (a .out .now) 0 (count (a .events)) (each (a .x) (a .first .now) (a .second .now)) (last (a .verdict)) (entry .pre .0) (events .events-line .ensures) (findings .put-findings .ensures) (verdict .verdict-line .ensures)
+    all-three (a .out .now) 0 (count (a .events)) (lines (a .x) (a .first .now) (a .second .now)) (last (a .verdict)) (entry .pre .0) (events .events-line .ensures) (findings .put-findings .ensures) (verdict .verdict-line .ensures)
 
 pub put-report-spec : {M : Type 1} → statement M
 put-report-spec =
