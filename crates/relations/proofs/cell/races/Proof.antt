@@ -1,7 +1,7 @@
 -- `cell::races` meets its contract, part by part.
 use borrow.Author.Needs.{needs}
-use Rattle.laws.proofs.Says.{says-eq, says-not, says-and, says-or, says-iff}
-use Rattle.relations.proofs.Telling.{says-is, told, told-back}
+use Rattle.laws.proofs.Says.{says-is, says-eq, says-not, says-and, says-or, says-iff}
+use Rattle.relations.proofs.Telling.{told, told-back}
 use Rattle.relations.proofs.cell.races.Statement.{statement}
 use Rattle.relations.proofs.cell.races.Tie as tie
 

@@ -1,9 +1,9 @@
 -- `cell::sc_step` meets its contract, way by way.
 use mathlib.Core.Logic.{inl, inr}
 use borrow.Author.Needs.{needs}
-use Rattle.laws.proofs.Says.{says-eq, says-not, says-and, says-or, says-iff}
+use Rattle.laws.proofs.Says.{says-is, says-eq, says-not, says-and, says-or, says-iff}
 use Rattle.model.specs.Relations.{by-hbsc, by-wb, by-fr}
-use Rattle.relations.proofs.Telling.{says-is, told, told-of-source}
+use Rattle.relations.proofs.Telling.{told, told-of-source}
 use Rattle.relations.proofs.cell.sc_step.Statement.{statement}
 use Rattle.relations.proofs.cell.sc_step.Tie as tie
 

@@ -1,7 +1,7 @@
 -- `shown::writes_race` meets its contract, part by part.
 use borrow.Author.Needs.{needs}
-use Rattle.laws.proofs.Says.{says-lt, says-and, says-iff}
-use Rattle.relations.proofs.Telling.{says-is, told}
+use Rattle.laws.proofs.Says.{says-is, says-lt, says-and, says-iff}
+use Rattle.relations.proofs.Telling.{told}
 use Rattle.relations.proofs.shown.writes_race.Statement.{statement}
 use Rattle.relations.proofs.shown.writes_race.Tie as tie
 
