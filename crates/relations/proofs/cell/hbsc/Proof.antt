@@ -1,4 +1,4 @@
--- `cell::hbsc` meets its contract: way by way.
+-- `cell::hbsc` meets its contract: it is told way by way.
 use mathlib.Core.Logic.{inl, inr}
 use borrow.Author.Needs.{needs}
 use Rattle.laws.proofs.Says.{says-is, says-and, says-or, says-iff}

@@ -15,10 +15,13 @@ Inv-loop which table x y n out₀ b₀ out b = (b ≤ n) × Made n b (relationOf
 abbrev μ-loop : tie.MeasureT-loop
 μ-loop which table x y n out₀ b₀ out b = n - b
 
+abbrev entry : tie.At-loop Inv-loop μ-loop → tie.Start Inv-loop μ-loop
+entry c = c .before .before .before .before .before
+
 fill-row-requires : tie.Need-fill-row-requires Inv-loop μ-loop
 fill-row-requires c κs =
     let loop = c .before .before in
-    let filling = loop .before .before .before .before .before .pre in
+    let filling = entry loop .pre in
     (record { table = filling .table; first = filling .first; second = filling .second; room = omega arith }, omega arith)
 
 loop-again : tie.Need-loop-again Inv-loop μ-loop
@@ -32,7 +35,7 @@ same-length c = c .before .loop .inv .1 .rest .size
 returns : tie.Need-returns Inv-loop μ-loop
 returns c =
     let loop = c .before in
-    let e : loop .loop .b ≡ loop .before .before .before .before .before .args .n = omega arith in
+    let e : loop .loop .b ≡ entry loop .args .n = omega arith in
     rw e at (loop .loop .inv .1)
 
 pub fill-spec : {M : Type 1} → statement M

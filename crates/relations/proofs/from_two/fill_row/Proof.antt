@@ -15,10 +15,13 @@ Inv-loop which table x y n out₀ b a₀ out a = (a ≤ n) × MadeRow n a b (λ 
 abbrev μ-loop : tie.MeasureT-loop
 μ-loop which table x y n out₀ b a₀ out a = n - a
 
+abbrev entry : tie.At-loop Inv-loop μ-loop → tie.Start Inv-loop μ-loop
+entry c = c .before .before .before .before .before
+
 related-requires : tie.Need-related-requires Inv-loop μ-loop
 related-requires c κs =
     let loop = c .before .before in
-    let (filling, inside) = loop .before .before .before .before .before .pre in
+    let (filling, inside) = entry loop .pre in
     (record { table = filling .table; col = omega arith; row = inside }, (filling .first, filling .second))
 
 put-requires : tie.Need-put-requires Inv-loop μ-loop
@@ -38,7 +41,7 @@ same-length c = c .before .loop .inv .1 .rest .size
 returns : tie.Need-returns Inv-loop μ-loop
 returns c =
     let loop = c .before in
-    let e : loop .loop .a ≡ loop .before .before .before .before .before .args .n = omega arith in
+    let e : loop .loop .a ≡ entry loop .args .n = omega arith in
     rw e at (loop .loop .inv .1)
 
 pub fill-row-spec : {M : Type 1} → statement M

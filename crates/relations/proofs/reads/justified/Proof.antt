@@ -7,6 +7,9 @@ use Rattle.relations.proofs.Reading.{says-justified, says-justified-wit
 use Rattle.relations.proofs.reads.justified.Statement.{statement}
 use Rattle.relations.proofs.reads.justified.Tie as tie
 
+abbrev entry : tie.After-source → tie.Start
+entry c = c .before .before .before .before .before
+
 some-sought-requires : tie.Need-some-sought-requires
 some-sought-requires c κs =
     let q = c .before .before .before .pre in
@@ -15,14 +18,14 @@ some-sought-requires c κs =
 some-sought-requires-2 : tie.Need-some-sought-requires-2
 some-sought-requires-2 c κs =
     let asked = c .before .before in
-    let q = asked .before .before .before .before .before .pre in
+    let q = entry asked .pre in
     record { table = q .table; inside = q .inside; given = q .by-hb }
 
 has-requires : tie.Need-has-requires
 has-requires c κs =
     let linked = c .before in
     let asked = linked .before .before in
-    let q = asked .before .before .before .before .before .pre in
+    let q = entry asked .pre in
     record { room = q .by-hb .room; col = source-low _ (q .table) (asked .source .ensures) (linked .link .given .1); row = q .inside }
 
 returns : tie.Need-returns
@@ -34,7 +37,7 @@ returns-2 : tie.Need-returns-2
 returns-2 c =
     let linked = c .before .before in
     let asked = linked .before .before in
-    let q = asked .before .before .before .before .before .pre in
+    let q = entry asked .pre in
     let is = asked .source .ensures in
     let to = linked .link .given .1 in
     says-justified (asked .before .some-sought .ensures) (the-source _ (q .table) is to)

@@ -1,4 +1,4 @@
--- `reads::races_earlier` meets its contract, part by part.
+-- `reads::races_earlier` meets its contract: it is told part by part.
 use borrow.Author.Needs.{needs}
 use Rattle.laws.proofs.Says.{says-is, says-lt, says-and, says-iff}
 use Rattle.relations.proofs.Telling.{told}
@@ -7,10 +7,10 @@ use Rattle.relations.proofs.reads.races_earlier.Tie as tie
 
 returns : tie.Need-returns
 returns c =
-    let s = c .before .before .before .before in
-    let (two, race) = s .pre in
+    let entry = c .before .before .before .before in
+    let (placed, race) = entry .pre in
     says-iff (λ ((l, w), r). record { earlier = l; write = w; race = r }) (λ z. ((z .earlier, z .write), z .race))
-    (says-and (says-and (says-lt (s .args .w) (s .args .r)) (says-is (c .before .writes .ensures))) (told two race (c .has .ensures)))
+    (says-and (says-and (says-lt (entry .args .w) (entry .args .r)) (says-is (c .before .writes .ensures))) (told placed race (c .has .ensures)))
 
 pub races-earlier-spec : {M : Type 1} → statement M
 races-earlier-spec = tie.close (tie.spec (λ c κs. search needs) (λ c κs. search needs) returns)

@@ -6,16 +6,19 @@ use Rattle.model.proofs.Fields.{absent-to}
 use Rattle.relations.proofs.reads.stands_on_race.Statement.{statement}
 use Rattle.relations.proofs.reads.stands_on_race.Tie as tie
 
+abbrev entry : tie.After-source → tie.Start
+entry c = c .before .before .before .before
+
 some-sought-requires : tie.Need-some-sought-requires
 some-sought-requires c κs =
     let asked = c .before .before .before in
-    let q = asked .before .before .before .before .pre in
+    let q = entry asked .pre in
     record { table = q .table; inside = q .inside; given = q .by-hb }
 
 some-sought-requires-2 : tie.Need-some-sought-requires-2
 some-sought-requires-2 c κs =
     let asked = c .before .before .before .before in
-    let q = asked .before .before .before .before .pre in
+    let q = entry asked .pre in
     record { table = q .table; inside = q .inside; given = q .by-race }
 
 returns : tie.Need-returns

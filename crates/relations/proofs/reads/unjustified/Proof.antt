@@ -1,4 +1,4 @@
--- `reads::unjustified` meets its contract, part by part.
+-- `reads::unjustified` meets its contract: it is told part by part.
 use borrow.Author.Needs.{needs}
 use Rattle.laws.proofs.Says.{says-is, says-not, says-and, says-iff}
 use Rattle.relations.proofs.reads.unjustified.Statement.{statement}

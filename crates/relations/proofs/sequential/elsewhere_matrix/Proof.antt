@@ -18,7 +18,8 @@ keep-requires c κs =
 returns : tie.Need-returns
 returns c =
     let kept = c .before .before in
-    made-again (kept .before .before .before .before .copy-to .ensures) (kept .keep .ensures)
+    let copied = kept .before .before .before .before in
+    made-again (copied .copy-to .ensures) (kept .keep .ensures)
 
 pub elsewhere-matrix-spec : {M : Type 1} → statement M
 elsewhere-matrix-spec = tie.close (tie.spec copy-to-requires keep-requires (λ c. search needs) returns)

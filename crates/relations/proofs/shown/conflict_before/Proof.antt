@@ -1,4 +1,4 @@
--- `shown::conflict_before` meets its contract: part by part.
+-- `shown::conflict_before` meets its contract: it is told part by part.
 use borrow.Author.Needs.{needs}
 use Rattle.laws.proofs.Says.{says-and, says-iff}
 use Rattle.relations.proofs.Telling.{told}

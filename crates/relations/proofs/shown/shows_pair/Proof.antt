@@ -5,19 +5,22 @@ use Rattle.relations.proofs.Showing.{no-record, no-cycle, says-pair}
 use Rattle.relations.proofs.shown.shows_pair.Statement.{statement}
 use Rattle.relations.proofs.shown.shows_pair.Tie as tie
 
+abbrev entry : tie.After-shared-slice-known4 → tie.Start
+entry c = c .before .before .before .before
+
 conflict-before-requires : tie.Need-conflict-before-requires
 conflict-before-requires c κs =
-    let (placed, by) = c .before .before .before .before .before .before .pre in
+    let (placed, by) = entry (c .before .before) .pre in
     (placed, (by .by-cf, by .by-hb))
 
 sources-conflict-requires : tie.Need-sources-conflict-requires
 sources-conflict-requires c κs =
-    let (placed, by) = c .before .before .before .before .before .before .pre in
+    let (placed, by) = entry (c .before .before) .pre in
     (placed, (by .by-cf, by .by-hb))
 
 writes-race-requires : tie.Need-writes-race-requires
 writes-race-requires c κs =
-    let (placed, by) = c .before .before .before .before .before .before .pre in
+    let (placed, by) = entry (c .before .before) .pre in
     (placed, by .by-race)
 
 pub shows-pair-spec : {M : Type 1} → statement M

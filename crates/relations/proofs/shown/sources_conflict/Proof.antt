@@ -6,11 +6,14 @@ use Rattle.relations.proofs.Telling.{told, told-of-source, the-source, 
 use Rattle.relations.proofs.shown.sources_conflict.Statement.{statement}
 use Rattle.relations.proofs.shown.sources_conflict.Tie as tie
 
+abbrev entry : tie.After-source → tie.Start
+entry c = c .before .before .before .before
+
 from-source-requires : tie.Need-from-source-requires
 from-source-requires c κs =
     let linked = c .before .before in
     let asked = linked .before .before in
-    let (placed, (cf, hb)) = asked .before .before .before .before .pre in
+    let (placed, (cf, hb)) = entry asked .pre in
     (record { table = placed .table; col = placed .col; row = source-low _ (placed .table) (asked .source .ensures) (linked .link .given .1) }, cf .room)
 
 returns : tie.Need-returns
@@ -20,7 +23,7 @@ returns-2 : tie.Need-returns-2
 returns-2 c =
     let linked = c .before .before .before in
     let asked = linked .before .before in
-    let (placed, (cf, hb)) = asked .before .before .before .before .pre in
+    let (placed, (cf, hb)) = entry asked .pre in
     let is = asked .source .ensures in
     let to = linked .link .given .1 in
     says-A3

@@ -20,13 +20,13 @@ abbrev μ-loop : tie.MeasureT-loop
 
 own-number-requires : tie.Need-own-number-requires Inv-loop μ-loop
 own-number-requires c κs =
-    let loop = c .before in
-    one-of (loop .before .before .before .before .pre .0) (omega arith)
+    let entry = c .before .before .before .before .before in
+    one-of (entry .pre .0) (omega arith)
 
 source-number-requires : tie.Need-source-number-requires Inv-loop μ-loop
 source-number-requires c κs =
-    let loop = c .before .before in
-    one-of (loop .before .before .before .before .pre .0) (omega arith)
+    let entry = c .before .before .before .before .before .before in
+    one-of (entry .pre .0) (omega arith)
 
 loop-again : tie.Need-loop-again Inv-loop μ-loop
 loop-again c =

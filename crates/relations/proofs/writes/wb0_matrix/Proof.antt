@@ -6,18 +6,24 @@ use Rattle.relations.proofs.Owning.{handing, before-owned, owners-befor
 use Rattle.relations.proofs.writes.wb0_matrix.Statement.{statement}
 use Rattle.relations.proofs.writes.wb0_matrix.Tie as tie
 
+abbrev entry : tie.After-owners → tie.Start
+entry c = c .before .before .before .before .before .before
+
+abbrev owning : tie.After-hand-to → tie.After-owners
+owning c = c .before .before .before .before .before .before
+
 hand-to-requires : tie.Need-hand-to-requires
 hand-to-requires c κs =
     let owned = c .before .before .before .before .before in
-    let (counted, hb, room) = owned .before .before .before .before .before .before .pre in
+    let (counted, hb, room) = entry owned .pre in
     let (own, sources) = owned .owners .ensures in
     handing counted own sources (few counted) (few counted) hb (square-few counted)
 
 hand-from-requires : tie.Need-hand-from-requires
 hand-from-requires c κs =
     let handed = c .before .before .before .before .before in
-    let owned = handed .before .before .before .before .before .before in
-    let (counted, hb, room) = owned .before .before .before .before .before .before .pre in
+    let owned = owning handed in
+    let (counted, hb, room) = entry owned .pre in
     let (own, sources) = owned .owners .ensures in
     handing counted own sources (few counted) (few counted) (made-given (square-few counted) (handed .hand-to .ensures)) room
 
@@ -25,8 +31,8 @@ keep-requires : tie.Need-keep-requires
 keep-requires c κs =
     let between = c .before .before .before in
     let handed = between .before .before .before .before .before .before in
-    let owned = handed .before .before .before .before .before .before in
-    let (counted, hb, room) = owned .before .before .before .before .before .before .pre in
+    let owned = owning handed in
+    let (counted, hb, room) = entry owned .pre in
     let (own, sources) = owned .owners .ensures in
     let to-owners = before-owned counted own sources hb (square-few counted) (handed .hand-to .ensures) in
     (counted, owners-before counted own sources to-owners room (between .hand-from .ensures))

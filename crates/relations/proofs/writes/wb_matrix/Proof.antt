@@ -12,7 +12,8 @@ close-requires c κs = record { room = omega arith; bits = bits-of (c .before .b
 returns : tie.Need-returns
 returns c =
     let closed = c .before .before in
-    λ b. wb-made (closed .before .before .before .before .copy-to .ensures) (closed .close .ensures)
+    let copied = closed .before .before .before .before in
+    λ b. wb-made (copied .copy-to .ensures) (closed .close .ensures)
 
 pub wb-matrix-spec : {M : Type 1} → statement M
 wb-matrix-spec = tie.close (tie.spec (λ c κs. search needs) close-requires (λ c. search needs) returns)
