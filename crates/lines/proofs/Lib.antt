@@ -3,3 +3,6 @@ pub mod Pieces
 pub mod Cycles
 pub mod Reading
 pub mod Lengths
+pub mod Answering
+pub mod Unique
+pub mod Written

@@ -2,8 +2,11 @@
 mod family;
 
 use crate::family::put_findings;
+use findings::Finding;
 use findings::Findings;
 use findings::Verdict;
+use limits::LIMIT;
+use refusals::Refusal;
 use refusals::Told;
 use text::put;
 use text::put_spaced;
@@ -12,6 +15,15 @@ ghost use Rattle.text.specs.Text.{Written, spaced};
 ghost use Rattle.lines.specs.Lines.{line, verdictText, eventsWord, verdictWord, reportText, placeText, refusedText};
 ghost use Rattle.lines.specs.Room.{Room};
 ghost use Rattle.lines.specs.Witnesses.{witnesses, AllWhole};
+
+// Room for the longest text: `longest` of the definitions.
+pub const TEXT: usize = 32 + Finding::COUNT * (8 + 4 * LIMIT);
+
+// What writing an answer gives: how many bytes were written, or the refusal.
+pub enum Wrote {
+    Refused(Refusal),
+    Length(usize),
+}
 
 fn events_line(out: &mut [u8], at: usize, count: usize) -> usize
     requires { ⌜ Room (now out) at (line eventsWord (spaced count)) ⌝ }
