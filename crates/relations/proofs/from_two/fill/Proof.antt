@@ -28,5 +28,7 @@ loop-again c =
     (omega arith, made-more (turn .before .before .before .loop .inv .1) (turn .fill-row .ensures))
 
 pub fill-spec : {M : Type 1} → statement M
-fill-spec = tie.close (tie.spec Inv-loop μ-loop (λ c. (omega arith, made-none)) fill-row-requires (λ c. omega arith) (λ c. omega arith) loop-again (λ c. c .before .loop .inv .1 .rest .size)
-    (λ c. made-all (c .before .loop .inv .1) (omega arith)))
+fill-spec =
+    tie.close
+    (tie.spec Inv-loop μ-loop (λ c. (omega arith, made-none)) fill-row-requires (λ c. omega arith) (λ c. omega arith) loop-again
+    (λ c. c .before .loop .inv .1 .rest .size) (λ c. made-all (c .before .loop .inv .1) (omega arith)))

@@ -28,5 +28,7 @@ loop-again c =
     (omega arith, made-more (turn .before .before .before .loop .inv .1) (turn .keep-row .ensures))
 
 pub keep-spec : {M : Type 1} → statement M
-keep-spec = tie.close (tie.spec Inv-loop μ-loop (λ c. (omega arith, made-none)) keep-row-requires (λ c. omega arith) (λ c. omega arith) loop-again (λ c. c .before .loop .inv .1 .rest .size)
-    (λ c. made-all (c .before .loop .inv .1) (omega arith)))
+keep-spec =
+    tie.close
+    (tie.spec Inv-loop μ-loop (λ c. (omega arith, made-none)) keep-row-requires (λ c. omega arith) (λ c. omega arith) loop-again
+    (λ c. c .before .loop .inv .1 .rest .size) (λ c. made-all (c .before .loop .inv .1) (omega arith)))

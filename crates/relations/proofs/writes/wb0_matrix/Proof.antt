@@ -43,4 +43,7 @@ returns c =
     made-again (kept .before .before .before .before .hand-on2 .ensures) (kept .keep .ensures)
 
 pub wb0-matrix-spec : {M : Type 1} → statement M
-wb0-matrix-spec = tie.close (tie.spec (λ c. search needs) (λ c. search needs) (λ c κs. search needs) (λ c. search needs) (λ c. search needs) (λ c. search needs) hand-on-requires (λ c. search needs) (λ c. search needs) (λ c. search needs) hand-on-requires-2 keep-requires (λ c. search needs) returns)
+wb0-matrix-spec =
+    tie.close
+    (tie.spec (λ c. search needs) (λ c. search needs) (λ c κs. search needs) (λ c. search needs) (λ c. search needs) (λ c. search needs) hand-on-requires
+    (λ c. search needs) (λ c. search needs) (λ c. search needs) hand-on-requires-2 keep-requires (λ c. search needs) returns)
