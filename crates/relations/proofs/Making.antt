@@ -1,4 +1,5 @@
 -- Matrices that are made one from another.
+use mathlib.Core.Path.{_≡_}
 use mathlib.Core.List.{List}
 use mathlib.Core.Logic.{_⊎_, inl, inr, ⊎-elim}
 use Prim.Native.Nat.{ℕ}
@@ -6,7 +7,7 @@ use native.Mathlib.Omega.{arith}
 use Rattle.laws.specs.Steps.{Plus}
 use Rattle.laws.proofs.Steps.{Within}
 use Rattle.matrix.specs.Matrix.{Square, Cell, IsMatrix, Made}
-use Rattle.matrix.specs.Relations.{Composed}
+use Rattle.matrix.specs.Derived.{Composed}
 use Rattle.matrix.proofs.Parts.{outside-trans}
 use Rattle.matrix.proofs.Cells.{rows-iff, of-cell, cell-of, bits-of, made-iff}
 use Rattle.matrix.proofs.Stages.{closed-holds}
@@ -27,6 +28,10 @@ made-given room p = record { room = made-room room p; holds = p .rows }
 
 pub given-matrix : {n : ℕ} {R : ℕ → ℕ → Type 0} {m : List ℕ} → Given n R m → IsMatrix n m
 given-matrix g = record { room = g .room; bits = bits-of (g .holds) }
+
+-- all rows are made
+pub made-all : {n b : ℕ} {R : ℕ → ℕ → Type 0} {m m′ : List ℕ} → Made n b R m m′ → b ≡ n → Made n n R m m′
+made-all p e = rw e at p
 
 -- a matrix is made, and made anew in place
 pub made-again : {n : ℕ} {R S : ℕ → ℕ → Type 0} {m₀ m m′ : List ℕ} → Made n n R m₀ m → Made n n S m m′ → Made n n S m₀ m′
