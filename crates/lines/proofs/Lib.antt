@@ -4,5 +4,6 @@ pub mod Cycles
 pub mod Reading
 pub mod Lengths
 pub mod Answering
+pub mod Telling
 pub mod Unique
 pub mod Written
