@@ -27,11 +27,10 @@ fn number(n: usize) {
 }
 
 fn say_refusal(r: Refusal) {
-    let told = r.told();
     text(b" refused ");
-    number(told.number);
+    number(r.told().number);
     text(b" at ");
-    number(told.place);
+    number(r.told().place);
 }
 
 fn say_byte(b: u8) {

@@ -1,6 +1,5 @@
 -- What a search's answer means says which it is.
 use mathlib.Core.Path.{_≡_, refl, sym, ap, subst, _∙_}
-use mathlib.Core.Bool.{true, false}
 use mathlib.Core.List.{List, _++_}
 use mathlib.Core.Option.{Option, none, some}
 use lib.Dec.{T}
@@ -23,17 +22,17 @@ means-one pair-of pair-of = refl
 means-one (cycle-of e) (cycle-of f) = ap found.Cycle (e ∙ sym f)
 
 -- there is one exactly where the answer says so
-pub there-some : {x : Found} {w : Option Witness} → Means x w → there x ≡ true → (v : Witness) × (w ≡ some v)
-there-some nothing e = absurd (subst T (sym e) tt)
-there-some record-of e = (_, refl)
-there-some pair-of e = (_, refl)
-there-some (cycle-of l) e = (_, refl)
+pub there-some : {x : Found} {w : Option Witness} → Means x w → T (there x) → (v : Witness) × (w ≡ some v)
+there-some nothing h = absurd h
+there-some record-of h = (_, refl)
+there-some pair-of h = (_, refl)
+there-some (cycle-of l) h = (_, refl)
 
-pub there-none : {x : Found} {w : Option Witness} → Means x w → there x ≡ false → w ≡ none
-there-none nothing e = refl
-there-none record-of e = absurd (subst T e tt)
-there-none pair-of e = absurd (subst T e tt)
-there-none (cycle-of l) e = absurd (subst T e tt)
+pub there-none : {x : Found} {w : Option Witness} → Means x w → ¬ T (there x) → w ≡ none
+there-none nothing h = refl
+there-none record-of h = absurd (h tt)
+there-none pair-of h = absurd (h tt)
+there-none (cycle-of l) h = absurd (h tt)
 
 -- ---- what a search finds
 

@@ -4,7 +4,6 @@ use mathlib.Core.List.{List, _++_}
 use mathlib.Core.Option.{Option, none, some}
 use Prim.Native.Nat.{ℕ}
 use lib.ListN.{length, drop}
-use Rattle.laws.specs.Least.{Pair}
 use Rattle.laws.specs.Witness.{Witness, a-record, a-pair, a-cycle, LeastWitness}
 use Rattle.findings.specs.declared.Found.{Found}
 use Rattle.findings.specs.declared.Found.the-variants as found

@@ -1,20 +1,15 @@
 -- What a matrix says, and the relation that it holds.
-use mathlib.Core.Path.{_≡_, sym, ap, subst, _∙_}
 use mathlib.Core.Bool.{Bool}
 use mathlib.Core.List.{List}
-use mathlib.Core.Logic.{_↔_, _⊎_, ⊎-map}
-use Prim.Native.Nat.{ℕ, _+_, _*_, _/_, _%_, _<_}
-use native.Mathlib.Nat.{zero-add, zero-mul, not-suc-le-zero, pos-of-ne-zero, div-lt-iff-lt-mul, mod-lt, div-add-mod'}
-use native.Mathlib.Omega.{arith}
-use native.Mathlib.Decide.{decLt}
-use lib.ListN.{getD}
-use lib.Seq.{ext-getD}
+use mathlib.Core.Logic.{_⊎_, ⊎-map}
+use Prim.Native.Nat.{ℕ, _+_, _*_, _<_}
+use native.Mathlib.Nat.{zero-add}
 use Rattle.laws.specs.Says.{Says}
 use Rattle.laws.proofs.Says.{says-iff}
 use Rattle.laws.proofs.Steps.{Within}
 use Rattle.matrix.specs.Matrix.{Bit, Row, Rows, Holds, Cell, Bits, Filled, Made}
 use Rattle.matrix.proofs.Parts.{place-before}
-use Rattle.matrix.proofs.Bytes.{bit-iff, bit-at, bit-is, bit-yes, bit-one}
+use Rattle.matrix.proofs.Bytes.{bit-iff, bit-at, bit-is, bit-yes}
 
 pub cell-within : (n : ℕ) (m : List ℕ) → Within n (Cell n m)
 cell-within n m = record { left = λ c. c .col; right = λ c. c .row }

@@ -8,13 +8,12 @@ use native.Mathlib.Decide.{ℕ-discrete}
 use lib.Bits.{bitOr}
 use lib.ListN.{length, getD, set}
 use lib.Seq.{getD-set-same, getD-set-other}
-use Rattle.laws.proofs.Steps.{Within}
-use Rattle.matrix.specs.Matrix.{Bit, Row, Holds, Cell, Bits, Joined, MadeRow, Made}
-use Rattle.matrix.specs.Derived.{Owned, Gathered, Scattered}
+use Rattle.matrix.specs.Matrix.{Bit, Row, Cell, Bits, Joined, MadeRow, Made}
+use Rattle.matrix.specs.Derived.{Gathered, Scattered}
 use Rattle.matrix.proofs.Bytes.{bit-iff, bit-at, bit-or}
 use Rattle.matrix.proofs.Parts.{row-before, outside-none, outside-wider, outside-trans, outside-set}
 use Rattle.matrix.proofs.Rows.{row-kept, made-row-iff}
-use Rattle.matrix.proofs.Cells.{rows-iff, made-iff, of-row, row-of, of-cell, cell-of, to-cell}
+use Rattle.matrix.proofs.Cells.{rows-iff, made-iff, of-row, row-of}
 use Rattle.matrix.proofs.Phases.{Phase, phase-more}
 use Rattle.matrix.proofs.Gains.{Gain, Gain.old, Gain.new, gain-none, gain-up, gain-down, gain-with, gain-less, gain-all, row-gains, row-same}
 

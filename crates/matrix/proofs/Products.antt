@@ -1,6 +1,6 @@
 -- One relation after another, row by row.
 use mathlib.Core.List.{List}
-use mathlib.Core.Logic.{_⊎_, ⊎-elim}
+use mathlib.Core.Logic.{⊎-elim}
 use Prim.Native.Nat.{ℕ, _+_}
 use Rattle.laws.proofs.Steps.{Within}
 use Rattle.matrix.specs.Matrix.{Row, Holds, Cell, Bits, Joined, MadeRow, Made}
