@@ -1,11 +1,11 @@
--- `edit_main::say_records` is safe and ends: only whole records are shown.
+-- `shown::say_records` is safe and ends: only whole records are shown.
 use mathlib.Core.Path.{_≡_}
 use Prim.Native.Nat.{_-_, _/_, _≤_}
 use native.Mathlib.Omega.{arith}
 use lib.ListN.{length}
 use borrow.Author.Needs.{needs}
-use Rattle.edit_main.proofs.say_records.Statement.{statement}
-use Rattle.edit_main.proofs.say_records.Tie as tie
+use Rattle.edit_main.proofs.shown.say_records.Statement.{statement}
+use Rattle.edit_main.proofs.shown.say_records.Tie as tie
 
 abbrev Inv-loop : tie.InvT-loop
 Inv-loop bytes count n₀ n-end n = (n ≤ n-end) × (n-end ≡ length bytes / 16)
