@@ -1,16 +1,24 @@
 -- How long the texts can be: numbers below a thousand have at most three digits.
 use mathlib.Core.Path.{_≡_, ap, _∙_}
-use mathlib.Core.Option.{Option, none, some}
+use mathlib.Core.Bool.{Bool, true, false, _||_}
+use mathlib.Core.Option.{Option}
 use mathlib.Core.List.{List, [], _∷_, _++_}
 use Prim.Native.Nat.{ℕ, zero, suc, _+_, _*_, _/_, _<_, _≤_}
 use native.Mathlib.Omega.{arith}
 use native.Mathlib.Decide.{decLt}
+use lib.Dec.{eqb}
 use lib.ListN.{length, length-append}
-use Rattle.laws.specs.Least.{Pair}
-use Rattle.model.specs.Findings.{Verdict, undefined, inconsistent, consistent, Report}
-use Rattle.text.specs.Text.{decimal, spaced, spacedEach}
+use Rattle.laws.specs.Witness.{Witness}
+use Rattle.findings.specs.declared.Finding.{Finding}
+use Rattle.findings.specs.declared.Finding.the-variants.{A1, A4}
+use Rattle.findings.specs.declared.Verdict.{Verdict}
+use Rattle.findings.specs.declared.Verdict.the-variants.{Undefined, Inconsistent, Consistent}
+use Rattle.findings.specs.Family.{inOrder, placeOf, nameOf}
+use Rattle.refusals.specs.declared.Told.{Told}
+use Rattle.text.specs.Text.{decimal, each, spaced, spacedEach}
 use Rattle.text.proofs.Laws.{decimal-one, decimal-longer}
-use Rattle.lines.specs.Lines.{line, noneWord, numberText, pairText, cycleText, verdictText, headText, pairsText, tailText, reportText, placeText, refusedText, eventsWord, RWord, A1Word, A2Word, A3Word, A4Word, WWord, verdictWord, refusedWord, atWord}
+use Rattle.lines.specs.Lines.{line, witnessText, findingLine, linesOf, verdictText, reportText, placeText, refusedText, eventsWord, verdictWord, refusedWord, atWord}
+use Rattle.lines.proofs.Small.{Small, more, SmallPlain, a-number, two-numbers, SmallCycle, cycle, SmallWitness, plain, in-first, in-second}
 
 -- one digit more for each ten times
 digits-within : (k bound n : ℕ) → n < 10 * bound → ((m : ℕ) → m < bound → length (decimal m) ≤ k) → length (decimal n) ≤ suc k
@@ -25,16 +33,11 @@ digits-within k bound n h shorter = go (decLt n 10)
 decimal-1 : (n : ℕ) → n < 10 → length (decimal n) ≤ 1
 decimal-1 n h = omega (arith, ap length (decimal-one n h))
 
-pub decimal-3 : (n : ℕ) → n < 1000 → length (decimal n) ≤ 3
+decimal-3 : (n : ℕ) → n < 1000 → length (decimal n) ≤ 3
 decimal-3 n h = digits-within 2 100 n h (λ m l. digits-within 1 10 m l decimal-1)
 
--- every number of a list is below a thousand
-pub data Small : List ℕ → Type 0 where
-  nothing : Small []
-  more : {n : ℕ} {l : List ℕ} → n < 1000 → Small l → Small (n ∷ l)
-
 each-short : {l : List ℕ} → Small l → length (spacedEach l) ≤ 4 * length l
-each-short nothing = omega arith
+each-short Small.nothing = omega arith
 each-short (more {n = n} {l = l} h s) =
     omega (arith, length-append (decimal n) (spacedEach l), decimal-3 n h, each-short s)
 
@@ -44,91 +47,80 @@ line-length name rest =
     let b = length-append rest (10 ∷ []) in
     omega arith
 
--- what is told is small
-pub data SmallNumber : Option ℕ → Type 0 where
-  nothing : SmallNumber none
-  number : {n : ℕ} → n < 1000 → SmallNumber (some n)
+-- ---- the lines of the findings
 
-pub data SmallPair : Option Pair → Type 0 where
-  nothing : SmallPair none
-  pair : {p : Pair} → p .first < 1000 → p .second < 1000 → SmallPair (some p)
+-- how many records a cycle of each can have
+abbrev few-if : Bool → ℕ → ℕ
+few-if true few = few
+few-if false few = 0
 
-pub data SmallCycle (few : ℕ) : Option (List ℕ) → Type 0 where
-  nothing : SmallCycle few none
-  cycle : {l : List ℕ} → length l ≤ few → Small l → SmallCycle few (some l)
+abbrev most : ℕ → Finding → ℕ
+most few f = few-if (eqb (placeOf f) (placeOf A1) || eqb (placeOf f) (placeOf A4)) few
 
-number-short : {x : Option ℕ} → SmallNumber x → length (numberText x) ≤ 5
-number-short SmallNumber.nothing = omega arith
-number-short (number {n = n} h) = omega (arith, decimal-3 n h)
+abbrev mostOf : ℕ → List Finding → ℕ
+mostOf few [] = 0
+mostOf few (f ∷ fs) = most few f + mostOf few fs
 
-pair-short : {x : Option Pair} → SmallPair x → length (pairText x) ≤ 8
-pair-short SmallPair.nothing = omega arith
-pair-short (pair {p = p} h k) =
+plain-short : {w : Option Witness} → SmallPlain w → length (witnessText w) ≤ 8
+plain-short SmallPlain.nothing = omega arith
+plain-short (a-number {n = n} h) = omega (arith, decimal-3 n h)
+plain-short (two-numbers {p = p} h k) =
     omega (arith, length-append (spaced (p .first)) (spaced (p .second)), decimal-3 (p .first) h, decimal-3 (p .second) k)
 
-cycle-short : {few : ℕ} {x : Option (List ℕ)} → SmallCycle few x → length (cycleText x) ≤ 5 + 4 * few
+cycle-short : {few : ℕ} {w : Option Witness} → SmallCycle few w → length (witnessText w) ≤ 8 + 4 * few
 cycle-short SmallCycle.nothing = omega arith
 cycle-short (cycle {l = l} h s) = omega (arith, each-short s)
 
-verdict-short : (v : Verdict) → length (verdictText v) ≤ 13
-verdict-short undefined = omega arith
-verdict-short inconsistent = omega arith
-verdict-short consistent = omega arith
+witness-short : {few : ℕ} {f : Finding} {w : Option Witness} → SmallWitness few f w → length (witnessText w) ≤ 8 + 4 * most few f
+witness-short (plain s) = omega (arith, plain-short s)
+witness-short (in-first s) = cycle-short s
+witness-short (in-second s) = cycle-short s
 
-pub record SmallReport (few : ℕ) (x : Report) : Type 0 where
-  pub R : SmallNumber (x .R)
-  pub A1 : SmallCycle few (x .A1)
-  pub A2 : SmallPair (x .A2)
-  pub A3 : SmallPair (x .A3)
-  pub A4 : SmallCycle few (x .A4)
-  pub W : SmallPair (x .W)
+module _ {few : ℕ} {witness : Finding → Option Witness} (small : (f : Finding) → SmallWitness few f (witness f)) where
+  lines-short : (fs : List Finding) → length (linesOf witness fs) ≤ length (each nameOf fs) + 9 * length fs + 4 * mostOf few fs
+  lines-short [] = omega arith
+  lines-short (f ∷ fs) =
+      omega (
+        arith,
+        length-append (findingLine witness f) (linesOf witness fs),
+        line-length (nameOf f) (witnessText (witness f)),
+        length-append (nameOf f) (each nameOf fs),
+        witness-short (small f),
+        lines-short fs,
+      )
 
-pub report-short : (few count : ℕ) (x : Report) → count < 1000 → SmallReport few x → length (reportText count x) ≤ 128 + 8 * few
-unfolding reportText
-report-short few count x h s =
-    let events = line eventsWord (spaced count) in
-    let reads = line RWord (numberText (x .R)) in
-    let a1 = line A1Word (cycleText (x .A1)) in
-    let a2 = line A2Word (pairText (x .A2)) in
-    let a3 = line A3Word (pairText (x .A3)) in
-    let a4 = line A4Word (cycleText (x .A4)) in
-    let w = line WWord (pairText (x .W)) in
-    let v = line verdictWord (verdictText (x .verdict)) in
-    omega (
-      arith,
-      length-append (events ++ (reads ++ a1)) ((a2 ++ a3) ++ (a4 ++ (w ++ v))),
-      length-append events (reads ++ a1),
-      length-append reads a1,
-      length-append (a2 ++ a3) (a4 ++ (w ++ v)),
-      length-append a2 a3,
-      length-append a4 (w ++ v),
-      length-append w v,
-      line-length eventsWord (spaced count),
-      line-length RWord (numberText (x .R)),
-      line-length A1Word (cycleText (x .A1)),
-      line-length A2Word (pairText (x .A2)),
-      line-length A3Word (pairText (x .A3)),
-      line-length A4Word (cycleText (x .A4)),
-      line-length WWord (pairText (x .W)),
-      line-length verdictWord (verdictText (x .verdict)),
-      decimal-3 count h,
-      number-short (s .R),
-      cycle-short (s .A1),
-      pair-short (s .A2),
-      pair-short (s .A3),
-      cycle-short (s .A4),
-      pair-short (s .W),
-      verdict-short (x .verdict),
-    )
+  -- ---- the whole texts
 
-pub refused-short : (n place : ℕ) → n < 1000 → place < 1000 → length (refusedText n place) ≤ 128
+  pub report-short : (count : ℕ) (verdict : Verdict) → count < 1000 → length (reportText count witness verdict) ≤ 128 + 8 * few
+  unfolding reportText
+  report-short count verdict h =
+      let first = line eventsWord (spaced count) in
+      let findings = linesOf witness inOrder in
+      let last = line verdictWord (verdictText verdict) in
+      omega (
+        arith,
+        length-append first (findings ++ last),
+        length-append findings last,
+        line-length eventsWord (spaced count),
+        line-length verdictWord (verdictText verdict),
+        decimal-3 count h,
+        lines-short inOrder,
+        verdict-short verdict,
+      )
+    where
+      verdict-short : (v : Verdict) → length (verdictText v) ≤ 13
+      verdict-short Undefined = omega arith
+      verdict-short Inconsistent = omega arith
+      verdict-short Consistent = omega arith
+
+pub refused-short : (told : Told) → told .number < 1000 → told .place < 1000 → length (refusedText told) ≤ 128
 unfolding refusedText
-refused-short n place h k =
+refused-short told h k =
     omega (
       arith,
-      line-length refusedWord (placeText n place),
-      length-append (spaced n) (atWord ++ spaced place),
-      length-append atWord (spaced place),
-      decimal-3 n h,
-      decimal-3 place k,
+      line-length refusedWord (placeText told),
+      length-append (spaced (told .number)) (atWord ++ spaced (told .place)),
+      length-append atWord (spaced (told .place)),
+      decimal-3 (told .number) h,
+      decimal-3 (told .place) k,
     )

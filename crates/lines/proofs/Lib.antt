@@ -1,7 +1,5 @@
--- Pieces of text, one after another.
+-- Pieces of text, small witnesses, what was found read again, and how long the texts can be.
 pub mod Pieces
+pub mod Small
+pub mod Reading
 pub mod Lengths
-pub mod Telling
-pub mod Answering
-pub mod Unique
-pub mod Written

@@ -1,5 +1,4 @@
 -- The report as text.
 pub mod Lines
 pub mod Room
-pub mod Told
-pub mod Answer
+pub mod Witnesses

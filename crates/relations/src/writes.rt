@@ -1,6 +1,6 @@
 // wb0 and wb as matrices: hb handed on to the writes that own its records.
-use crate::stored::Stored;
-use crate::stored::fill;
+use crate::kept::Kept;
+use crate::kept::keep;
 use events::Link;
 use facts::source;
 use facts::writes;
@@ -11,14 +11,14 @@ use matrix::owner::scatter;
 use matrix::whole::clear;
 use matrix::whole::copy_to;
 ghost use mathlib.Core.Path.{_≡_};
-ghost use Prim.Native.Nat.{_<_, _≤_};
+ghost use mathlib.Core.List.{List};
+ghost use Prim.Native.Nat.{ℕ, _≤_};
 ghost use lib.ListN.{length};
-ghost use Rattle.laws.specs.Steps.{Plus};
 ghost use Rattle.matrix.specs.Matrix.{Square, Cell, IsMatrix, Filled, Made};
-ghost use Rattle.model.specs.Relations.{Hb, Wb0};
+ghost use Rattle.model.specs.Relations.{Hb, Wb0, Wb};
 ghost use Rattle.table.specs.Events.{eventsOf};
-ghost use Rattle.facts.specs.Sound.{SoundTable};
-ghost use Rattle.relations.specs.Asked.{Counted, Given};
+ghost use Rattle.facts.specs.Sound.{One, Counted};
+ghost use Rattle.relations.specs.Given.{Given};
 ghost use Rattle.relations.specs.Owners.{ownNumber, sourceNumber, EitherOwns, Handing};
 
 // No record has this number.
@@ -26,7 +26,7 @@ const NONE: u8 = 255;
 
 // A record that writes owns itself.
 fn own_number(table: &[u8], v: usize) -> u8
-    requires { ⌜ SoundTable (now table) × (v < eventsOf (now table) .count) ⌝ }
+    requires { ⌜ One (now table) v ⌝ }
     ensures { λ r. ⌜ r ≡ ownNumber (eventsOf (now (table .entry))) v ⌝ }
 {
     if writes(table, v) { v as u8 } else { NONE }
@@ -34,7 +34,7 @@ fn own_number(table: &[u8], v: usize) -> u8
 
 // A record's source owns it.
 fn source_number(table: &[u8], v: usize) -> u8
-    requires { ⌜ SoundTable (now table) × (v < eventsOf (now table) .count) ⌝ }
+    requires { ⌜ One (now table) v ⌝ }
     ensures { λ r. ⌜ r ≡ sourceNumber (eventsOf (now (table .entry))) v ⌝ }
 {
     let link = source(table, v);
@@ -85,15 +85,14 @@ pub fn wb0_matrix(table: &[u8], hb: &[u8], n: usize, out: &mut [u8])
     owners(table, n, &mut own, &mut sources);
     let mut to_owners = [0u8; LIMIT * LIMIT];
     hand_to(&own, &sources, hb, n, &mut to_owners);
-    let mut between = [0u8; LIMIT * LIMIT];
-    hand_from(&own, &sources, &to_owners, n, &mut between);
-    fill(Stored::Wb0, table, &between, hb, hb, n, out);
+    hand_from(&own, &sources, &to_owners, n, out);
+    keep(Kept::Wb0, table, n, out);
 }
 
-// One or more steps of what wb0 holds.
+// wb: "one or more steps of wb0", whichever table's wb0 it is.
 pub fn wb_matrix(wb0: &[u8], n: usize, out: &mut [u8])
     requires { ⌜ IsMatrix n (now wb0) × Square n (now out) ⌝ }
-    ensures { λ _. ⌜ Made n n (Plus (Cell n (now (wb0 .entry)))) (now (out .entry)) (now (out .exit)) ⌝ }
+    ensures { λ _. ⌜ ((b : List ℕ) → Counted b n → Given n (Wb0 (eventsOf b)) (now (wb0 .entry)) → Made n n (Wb (eventsOf b)) (now (out .entry)) (now (out .exit))) ⌝ }
 {
     copy_to(wb0, out, n);
     close(out, n);
