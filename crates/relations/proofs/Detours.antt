@@ -7,7 +7,7 @@ use Rattle.model.specs.Relations.{Hb, PoDiff}
 use Rattle.model.proofs.Within.{within-by, po-within, hb-within}
 use Rattle.table.specs.Events.{eventsOf}
 use Rattle.matrix.specs.Matrix.{Square, Cell, Made}
-use Rattle.matrix.specs.Relations.{Composed}
+use Rattle.matrix.specs.Derived.{Composed}
 use Rattle.matrix.proofs.Cells.{holds-iff, either-holds}
 use Rattle.matrix.proofs.Parts.{outside-trans}
 use Rattle.facts.specs.Sound.{Counted}

@@ -6,7 +6,7 @@ use native.Mathlib.Omega.{arith}
 use Rattle.laws.specs.Steps.{Plus}
 use Rattle.laws.proofs.Steps.{Within}
 use Rattle.matrix.specs.Matrix.{Square, Cell, IsMatrix, Made}
-use Rattle.matrix.specs.Relations.{Composed}
+use Rattle.matrix.specs.Derived.{Composed}
 use Rattle.matrix.proofs.Parts.{outside-trans}
 use Rattle.matrix.proofs.Cells.{rows-iff, of-cell, cell-of, bits-of, made-iff}
 use Rattle.matrix.proofs.Stages.{closed-holds}

@@ -17,7 +17,7 @@ use Rattle.model.proofs.Facts.{has-source, source-is-earlier-write}
 use Rattle.model.proofs.Within.{hb-within}
 use Rattle.table.specs.Events.{eventsOf}
 use Rattle.matrix.specs.Matrix.{Square, Holds, Cell, IsMatrix, Filled, Made}
-use Rattle.matrix.specs.Relations.{Owners}
+use Rattle.matrix.specs.Derived.{Owners}
 use Rattle.matrix.proofs.Cells.{rows-iff, of-cell, cell-of, to-cell, bits-of}
 use Rattle.facts.specs.Sound.{Counted}
 use Rattle.facts.proofs.Records.{formed, within-count, few}

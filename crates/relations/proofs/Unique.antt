@@ -13,7 +13,7 @@ use Rattle.model.specs.Relations.{Race, EarlierRace, StandsOnRace}
 use Rattle.model.specs.Findings.{ShowsR, Shows}
 use Rattle.matrix.specs.Matrix.{Made}
 use Rattle.matrix.proofs.Bytes.{bit-one}
-use Rattle.matrix.proofs.Cells.{made-one}
+use Rattle.matrix.proofs.Unique.{made-one}
 use Rattle.relations.specs.Given.{Given}
 
 module _ (t : Table) where

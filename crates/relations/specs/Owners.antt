@@ -9,7 +9,7 @@ use Rattle.events.specs.declared.Link.the-variants.{Absent, To}
 use Rattle.events.specs.Words.{isWrite}
 use Rattle.model.specs.Table.{Table}
 use Rattle.matrix.specs.Matrix.{Square, IsMatrix}
-use Rattle.matrix.specs.Relations.{Owned}
+use Rattle.matrix.specs.Derived.{Owned}
 
 -- no record has this number
 abbrev pub noNumber : ℕ

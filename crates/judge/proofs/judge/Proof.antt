@@ -1,28 +1,45 @@
--- `judge` meets its contract: by the test of the table, and by the room of the two buffers.
 use borrow.Author.Needs.{needs}
-use Rattle.laws.proofs.Says.{said}
-use Rattle.judge.specs.Answer.{judged}
-use Rattle.judge.proofs.Answering.{tested-count, room-told, answer-cramped, answer-tested, answer-cramped-first}
 use Rattle.judge.proofs.judge.Statement.{statement}
 use Rattle.judge.proofs.judge.Tie as tie
+use Rattle.judge.proofs.judge.Reads as reads
+use Rattle.judge.proofs.judge.Lts as lts
+use Rattle.judge.proofs.has_room.Reads as has-room-reads
+use Rattle.judge.proofs.judge_records.Reads as judge-records-reads
+use Rattle.table.proofs.length_ok.Reads as length-ok-reads
 
-report-of-requires : tie.Need-report-of-requires
-report-of-requires c κs = (tested-count _ _ (rw (c .before .before .before .before .n .given .1) at (c .before .before .before .before .before .before .test .ensures)), said (room-told _ _ (c .before .before .before .before .before .before .before .has-room .ensures)) (c .before .before .if1 .taken))
+length-ok-requires : tie.Need-length-ok-requires
+length-ok-requires c κs = search needs
+
+has-room-requires : tie.Need-has-room-requires
+has-room-requires c κs = search needs
+
+judge-records-requires : tie.Need-judge-records-requires
+judge-records-requires c κs = ?
+
+same-length : tie.Need-same-length
+same-length c = search needs
+
+same-length-2 : tie.Need-same-length-2
+same-length-2 c = search needs
 
 returns : tie.Need-returns
-returns c = judged (said (room-told _ _ (c .before .before .before .before .before .before .before .before .before .before .before .before .has-room .ensures)) (c .before .before .before .before .before .before .before .if1 .taken)) (rw (c .before .before .before .before .before .before .before .before .before .n .given .1) at (c .before .before .before .before .before .before .before .before .before .before .before .test .ensures)) (c .before .before .before .before .report-of .ensures)
+returns c = search needs
 
 returns-2 : tie.Need-returns-2
-returns-2 c = answer-cramped (room-told _ _ (c .before .before .before .before .before .has-room .ensures)) (c .if1 .left) (rw (c .before .before .n .given .1) at (c .before .before .before .before .test .ensures))
+returns-2 c = ?
 
 returns-3 : tie.Need-returns-3
-returns-3 c = answer-tested (room-told _ _ (c .before .before .before .before .before .before .has-room .ensures)) (c .before .number .ensures) (c .if2 .taken) (rw (c .before .before .before .r .given .1) at (c .before .before .before .before .before .test .ensures))
-
-returns-4 : tie.Need-returns-4
-returns-4 c = answer-cramped-first (room-told _ _ (c .before .before .before .before .before .before .has-room .ensures)) (c .before .number .ensures) (c .if2 .left) (rw (c .before .before .before .r .given .1) at (c .before .before .before .before .before .test .ensures))
+returns-3 c = ?
 
 pub judge-spec : {M : Type 1} → statement M
 judge-spec =
     tie.close
-    (tie.spec (λ c κs. search needs) (λ c κs. search needs) (λ c. search needs) report-of-requires (λ c. search needs) (λ c κs. search needs)
-    (λ c. search needs) (λ c. search needs) returns returns-2 returns-3 returns-4)
+    (tie.spec
+    length-ok-requires
+    has-room-requires
+    judge-records-requires
+    same-length
+    same-length-2
+    returns
+    returns-2
+    returns-3)

@@ -1,37 +1,42 @@
--- `report_of` meets its contract: hb is made, the witnesses are found, and the verdict follows.
 use borrow.Author.Needs.{needs}
-use native.Mathlib.Omega.{arith}
-use Rattle.relations.proofs.Counting.{few, square-few}
-use Rattle.relations.proofs.Making.{made-given}
-use Rattle.judge.proofs.Reporting.{tells}
 use Rattle.judge.proofs.report_of.Statement.{statement}
 use Rattle.judge.proofs.report_of.Tie as tie
+use Rattle.judge.proofs.report_of.Reads as reads
+use Rattle.judge.proofs.report_of.Lts as lts
+use Rattle.findings.proofs.Found.there.Reads as there-reads
+use Rattle.judge.proofs.any_found.Reads as any-found-reads
+use Rattle.judge.proofs.searching.find_all.Reads as find-all-reads
+use Rattle.judge.proofs.verdict_by.Reads as verdict-by-reads
 
-hb-matrix-requires : tie.Need-hb-matrix-requires
-hb-matrix-requires c κs =
-    let counted = c .before .before .before .before .pre .0 in
-    record { sound = counted .sound; all = counted .all; room = square-few counted }
+find-all-requires : tie.Need-find-all-requires
+find-all-requires c κs = search needs
 
-find-shown-requires : tie.Need-find-shown-requires
-find-shown-requires c κs =
-    let counted = c .before .before .before .before .before .before .before .pre .0 in
-    record { table = counted; by-hb = made-given (square-few counted) (c .before .before .hb-matrix .ensures) }
+there-requires : tie.Need-there-requires
+there-requires c κs = search needs
 
-find-cycles-requires : tie.Need-find-cycles-requires
-find-cycles-requires c κs =
-    let (counted, room) = c .before .before .before .before .before .before .before .before .before .before .before .pre in
-    let by-hb = made-given (square-few counted) (c .before .before .before .before .before .before .hb-matrix .ensures) in
-    (record { order = record { table = counted; by-hb = by-hb }; room = omega (arith, few counted, room .first) }, omega (arith, few counted, room .second))
+any-found-requires : tie.Need-any-found-requires
+any-found-requires c κs = search needs
+
+verdict-by-requires : tie.Need-verdict-by-requires
+verdict-by-requires c κs = search needs
+
+same-length : tie.Need-same-length
+same-length c = search needs
+
+same-length-2 : tie.Need-same-length-2
+same-length-2 c = search needs
 
 returns : tie.Need-returns
-returns c =
-    let start = c .before .before .before .before .before .before .before .before .before .before .before .before .before .before .before .before .before in
-    let shown = c .before .before .before .before .before .before .before .before .before .find-shown in
-    let cycles = c .before .before .before .before .before .find-cycles in
-    tells (start .args .n) (shown .result) (cycles .result) (c .verdict-of .result) (start .pre .0 .all) (shown .ensures) (cycles .ensures) (c .verdict-of .ensures)
+returns c = ?
 
 pub report-of-spec : {M : Type 1} → statement M
 report-of-spec =
     tie.close
-    (tie.spec (λ c. search needs) hb-matrix-requires (λ c. search needs) find-shown-requires (λ c. search needs) find-cycles-requires (λ c κs. search needs)
-    (λ c. search needs) (λ c. search needs) returns)
+    (tie.spec
+    find-all-requires
+    there-requires
+    any-found-requires
+    verdict-by-requires
+    same-length
+    same-length-2
+    returns)
