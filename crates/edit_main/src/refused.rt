@@ -13,7 +13,7 @@ use programs::large::Large;
 use programs::records::load;
 use programs::records::store;
 use programs::say;
-use programs::script::record_from;
+use programs::script::record_named;
 use record::places::SIZE;
 
 // An append to the first `room` bytes of a table, and whether it changed any byte of it.
@@ -32,7 +32,7 @@ fn try_append(what: &[u8], table: [u8; 96], room: usize, used: usize, new: Recor
 fn try_event(what: &[u8], t: [u8; 96], script: &[u8]) -> bool
     requires { ⌜ length (now script) ≡ 9 ⌝ }
 {
-    try_append(what, t, 96, 5, record_from(script))
+    try_append(what, t, 96, 5, record_named(script))
 }
 
 pub fn events(t: [u8; 96]) {

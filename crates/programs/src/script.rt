@@ -72,7 +72,7 @@ fn flags_of(read: u8, written: u8) -> u8 {
 }
 
 // The record that nine characters name.
-pub fn record_from(part: &[u8]) -> Record
+pub fn record_named(part: &[u8]) -> Record
     requires { ⌜ length (now part) ≡ 9 ⌝ }
 {
     let mut b = record::bytes_of(root());
@@ -93,7 +93,7 @@ pub fn record_at(script: &[u8], n: usize) -> Record
     requires { ⌜ 9 * n + 9 ≤ length (now script) ⌝ }
 {
     let at = WIDTH * n;
-    record_from(&script[at..at + WIDTH])
+    record_named(&script[at..at + WIDTH])
 }
 
 // Writes each record of a script.
