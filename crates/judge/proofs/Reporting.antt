@@ -11,6 +11,7 @@ use Rattle.laws.proofs.Says.{any-in, any-of}
 use Rattle.findings.specs.declared.Finding.{Finding}
 use Rattle.findings.specs.declared.Finding.the-variants.{W}
 use Rattle.findings.specs.declared.Findings.{Findings}
+use Rattle.findings.specs.declared.Verdict.{Verdict}
 use Rattle.findings.specs.Family.{inOrder, placeOf, findingAt, foundOf, there}
 use Rattle.findings.proofs.Family.{place-below, finding-at}
 use Rattle.findings.proofs.Meant.{there-some, there-none}
@@ -41,3 +42,17 @@ module _ {t : Table} {before₁ after₁ before₂ after₂ : List ℕ} {x : Fin
           let (f, h) = s .to tt in
           inconsistent-by least f (there-none (all .each W .means) (subst T e)) (there-some (all .each f .means) h .1)
       by false false e s = consistent-by least (λ f. there-none (all .each f .means) (λ h. s .from (f, h)))
+
+pub report-right :
+    {b before₁ after₁ before₂ after₂ : List ℕ} {n : ℕ} {x : Findings} {verdict : Verdict} → n ≡ eventsOf b .count → FoundAll (eventsOf b) before₁ after₁ before₂ after₂ x → verdict ≡ verdictBy (there (x .w)) (anyFound x)
+    → ReportOf b before₁ after₁ before₂ after₂ (record { events = n; findings = x; verdict = verdict })
+report-right {b} count all is = record {
+  witness = λ f. all .each f .witness;
+  tells = record {
+    events = count;
+    right = record { least = λ f. all .each f .least; verdict = subst (VerdictIs (eventsOf b)) (sym is) (verdict-right all) };
+    means = λ f. all .each f .means;
+  };
+  first = all .first;
+  second = all .second;
+}

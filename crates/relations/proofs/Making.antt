@@ -1,4 +1,5 @@
 -- Matrices that are made one from another.
+use mathlib.Core.Path.{_≡_}
 use mathlib.Core.List.{List}
 use mathlib.Core.Logic.{_⊎_, inl, inr, ⊎-elim}
 use Prim.Native.Nat.{ℕ}
@@ -27,6 +28,10 @@ made-given room p = record { room = made-room room p; holds = p .rows }
 
 pub given-matrix : {n : ℕ} {R : ℕ → ℕ → Type 0} {m : List ℕ} → Given n R m → IsMatrix n m
 given-matrix g = record { room = g .room; bits = bits-of (g .holds) }
+
+-- all rows are made
+pub made-all : {n b : ℕ} {R : ℕ → ℕ → Type 0} {m m′ : List ℕ} → Made n b R m m′ → b ≡ n → Made n n R m m′
+made-all p e = rw e at p
 
 -- a matrix is made, and made anew in place
 pub made-again : {n : ℕ} {R S : ℕ → ℕ → Type 0} {m₀ m m′ : List ℕ} → Made n n R m₀ m → Made n n S m m′ → Made n n S m₀ m′

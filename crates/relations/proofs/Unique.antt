@@ -16,11 +16,11 @@ use Rattle.matrix.proofs.Bytes.{bit-one}
 use Rattle.matrix.proofs.Unique.{made-one}
 use Rattle.relations.specs.Given.{Given}
 
-module _ (t : Table) where
-  -- `race_matrix`
-  pub one-race-matrix : {n : ℕ} {m m₁ m₂ : List ℕ} → Made n n (Race t) m m₁ → Made n n (Race t) m m₂ → m₁ ≡ m₂
-  one-race-matrix {n} = made-one n
+-- `race_matrix`, and each of the seven of `make_all`
+pub one-matrix : {n : ℕ} {R : ℕ → ℕ → Type 0} {m m₁ m₂ : List ℕ} → Made n n R m m₁ → Made n n R m m₂ → m₁ ≡ m₂
+one-matrix {n} = made-one n
 
+module _ (t : Table) where
   -- `shows_pair`
   pub one-shows-pair : (f : Finding) (w : Witness) {x y : Bool} → Says x (Shows t f w) → Says y (Shows t f w) → x ≡ y
   one-shows-pair f w = says-one
@@ -37,7 +37,3 @@ module _ (t : Table) where
     -- `races_earlier`
     pub one-races-earlier : {w : ℕ} → Says x (EarlierRace t w r) → Says y (EarlierRace t w r) → x ≡ y
     one-races-earlier = says-one
-
--- `make_all`: each cell of each matrix that it hands back; what lies past the cells is no result
-pub one-given : {n : ℕ} {R : ℕ → ℕ → Type 0} {m m′ : List ℕ} → Given n R m → Given n R m′ → (a b : ℕ) → a < n → b < n → getD m (b * n + a) 0 ≡ getD m′ (b * n + a) 0
-one-given g h a b l k = bit-one (g .holds .row b k .cell a l) (h .holds .row b k .cell a l)

@@ -3,8 +3,7 @@ use mathlib.Core.List.{List}
 use Prim.Native.Nat.{ℕ}
 use Rattle.model.specs.Table.{Table}
 use Rattle.model.specs.Relations.{Po, Conflict, Hb, Race, Wb0, Wb, ScStep}
-use Rattle.matrix.specs.Matrix.{Square}
-use Rattle.relations.specs.Given.{Given}
+use Rattle.matrix.specs.Matrix.{Square, Made}
 
 -- room for them
 pub record Lent (n : ℕ) (po cf hb race wb0 wb sc : List ℕ) : Type 0 where
@@ -16,18 +15,19 @@ pub record Lent (n : ℕ) (po cf hb race wb0 wb sc : List ℕ) : Type 0 where
   pub for-wb : Square n wb
   pub for-sc : Square n sc
 
-pub record Worked (t : Table) (n : ℕ) (po cf hb race wb0 wb sc : List ℕ) : Type 0 where
+-- the seven made, each byte past a matrix as it was (the list before, and the list after)
+pub record Worked (t : Table) (n : ℕ) (po po′ cf cf′ hb hb′ race race′ wb0 wb0′ wb wb′ sc sc′ : List ℕ) : Type 0 where
   -- po: "a before b if a is a proper ancestor of b"
-  pub holds-po : Given n (Po t) po
+  pub made-po : Made n n (Po t) po po′
   -- cf (conflict)
-  pub holds-cf : Given n (Conflict t) cf
+  pub made-cf : Made n n (Conflict t) cf cf′
   -- hb: "one or more steps of po or sw"
-  pub holds-hb : Given n (Hb t) hb
+  pub made-hb : Made n n (Hb t) hb hb′
   -- race
-  pub holds-race : Given n (Race t) race
+  pub made-race : Made n n (Race t) race race′
   -- wb0
-  pub holds-wb0 : Given n (Wb0 t) wb0
+  pub made-wb0 : Made n n (Wb0 t) wb0 wb0′
   -- wb: "one or more steps of wb0"
-  pub holds-wb : Given n (Wb t) wb
+  pub made-wb : Made n n (Wb t) wb wb′
   -- "hbsc, wb and fr together, among SC records"
-  pub holds-sc : Given n (ScStep t) sc
+  pub made-sc : Made n n (ScStep t) sc sc′

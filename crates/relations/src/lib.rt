@@ -32,7 +32,7 @@ pub fn make_all(
     sc: &mut [u8],
 )
     requires { ⌜ Counted (now table) n × Lent n (now po) (now cf) (now hb) (now race) (now wb0) (now wb) (now sc) ⌝ }
-    ensures { λ _. ⌜ Worked (eventsOf (now (table .entry))) n (now (po .exit)) (now (cf .exit)) (now (hb .exit)) (now (race .exit)) (now (wb0 .exit)) (now (wb .exit)) (now (sc .exit)) ⌝ }
+    ensures { λ _. ⌜ Worked (eventsOf (now (table .entry))) n (now (po .entry)) (now (po .exit)) (now (cf .entry)) (now (cf .exit)) (now (hb .entry)) (now (hb .exit)) (now (race .entry)) (now (race .exit)) (now (wb0 .entry)) (now (wb0 .exit)) (now (wb .entry)) (now (wb .exit)) (now (sc .entry)) (now (sc .exit)) ⌝ }
 {
     po_matrix(table, n, po);
     conflict_matrix(table, n, cf);

@@ -36,6 +36,7 @@ fn written_before(table: &[u8], hb: &[u8], n: usize, w: usize, r: usize) -> bool
     writes(table, w) & same_location(table, w, r) & has(hb, n, w, r)
 }
 
+// Whether w is one of them.
 fn is_sought(which: Sought, table: &[u8], m: &[u8], n: usize, w: usize, r: usize) -> bool
     requires { ⌜ Placed (now table) n w r × Given n (toldBy which (eventsOf (now table))) (now m) ⌝ }
     ensures { λ x. ⌜ Says x (soughtOf which (eventsOf (now (table .entry))) w r) ⌝ }
@@ -46,6 +47,7 @@ fn is_sought(which: Sought, table: &[u8], m: &[u8], n: usize, w: usize, r: usize
     }
 }
 
+// Whether there is one.
 fn some_sought(which: Sought, table: &[u8], m: &[u8], n: usize, r: usize) -> bool
     requires { ⌜ Seeking which (now table) n r (now m) ⌝ }
     ensures { λ x. ⌜ Says x ((w : ℕ) × soughtOf which (eventsOf (now (table .entry))) w r) ⌝ }

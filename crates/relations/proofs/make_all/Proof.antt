@@ -83,15 +83,14 @@ returns c =
     let cf = at-cf hb in
     let po = at-po cf in
     let (counted, lent) = entry po .pre in
-    let given-wb0 = made-given (lent .for-wb0) (wb0 .wb0-matrix .ensures) in
     record {
-      holds-po = made-given (lent .for-po) (po .po-matrix .ensures);
-      holds-cf = made-given (lent .for-cf) (cf .conflict-matrix .ensures);
-      holds-hb = made-given (lent .for-hb) (hb .hb-matrix .ensures);
-      holds-race = made-given (lent .for-race) (race .race-matrix .ensures);
-      holds-wb0 = given-wb0;
-      holds-wb = made-given (lent .for-wb) (wb .wb-matrix .ensures _ counted given-wb0);
-      holds-sc = made-given (lent .for-sc) (sc .sc-matrix .ensures);
+      made-po = po .po-matrix .ensures;
+      made-cf = cf .conflict-matrix .ensures;
+      made-hb = hb .hb-matrix .ensures;
+      made-race = race .race-matrix .ensures;
+      made-wb0 = wb0 .wb0-matrix .ensures;
+      made-wb = wb .wb-matrix .ensures _ counted (made-given (lent .for-wb0) (wb0 .wb0-matrix .ensures));
+      made-sc = sc .sc-matrix .ensures;
     }
 
 pub make-all-spec : {M : Type 1} → statement M

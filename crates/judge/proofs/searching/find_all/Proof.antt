@@ -2,6 +2,7 @@
 use native.Mathlib.Omega.{arith}
 use borrow.Author.Needs.{needs}
 use Rattle.facts.proofs.Records.{few, square-few}
+use Rattle.relations.proofs.Making.{made-given}
 use Rattle.judge.proofs.searching.find_all.Statement.{statement}
 use Rattle.judge.proofs.searching.find_all.Tie as tie
 
@@ -17,10 +18,10 @@ find-in-requires c κs =
     let (counted, roomy) = entry .pre in
     let make-all = c .before .before .before .before .before .before .before .before .before .before .before .before .before .before .make-all in
     let made = make-all .ensures in
-    (
+    let room = square-few counted in (
       counted,
-      record { by-cf = made .holds-cf; by-hb = made .holds-hb; by-race = made .holds-race },
-      record { by-wb0 = made .holds-wb0; by-steps = made .holds-sc; room-first = omega (arith, few counted, roomy .first); room-second = omega (arith, few counted, roomy .second) },
+      record { by-cf = made-given room (made .made-cf); by-hb = made-given room (made .made-hb); by-race = made-given room (made .made-race) },
+      record { by-wb0 = made-given room (made .made-wb0); by-steps = made-given room (made .made-sc); room-first = omega (arith, few counted, roomy .first); room-second = omega (arith, few counted, roomy .second) },
     )
 
 pub find-all-spec : {M : Type 1} → statement M

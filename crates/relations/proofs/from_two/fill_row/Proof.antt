@@ -45,4 +45,7 @@ returns c =
     rw e at (loop .loop .inv .1)
 
 pub fill-row-spec : {M : Type 1} → statement M
-fill-row-spec = tie.close (tie.spec Inv-loop μ-loop (λ c. (omega arith, made-row-none)) related-requires put-requires (λ c. omega arith) (λ c. omega arith) loop-again same-length returns)
+fill-row-spec =
+    tie.close
+    (tie.spec Inv-loop μ-loop (λ c. (omega arith, made-row-none)) related-requires put-requires (λ c. omega arith) (λ c. omega arith) loop-again
+    same-length returns)

@@ -1,11 +1,11 @@
 -- `kept::keep` meets its contract: the first b rows are made, and the others are as they were.
-use mathlib.Core.Path.{_≡_}
 use Prim.Native.Nat.{_-_, _≤_}
 use native.Mathlib.Omega.{arith}
 use Rattle.matrix.specs.Matrix.{Made}
 use Rattle.matrix.proofs.Rows.{made-none, made-more}
 use Rattle.table.specs.Events.{eventsOf}
 use Rattle.relations.specs.Kept.{keptOf}
+use Rattle.relations.proofs.Making.{made-all}
 use Rattle.relations.proofs.Keeping.{next-row}
 use Rattle.relations.proofs.kept.keep.Statement.{statement}
 use Rattle.relations.proofs.kept.keep.Tie as tie
@@ -27,14 +27,8 @@ loop-again c =
     let turn = c .before .before in
     (omega arith, made-more (turn .before .before .before .loop .inv .1) (turn .keep-row .ensures))
 
-same-length : tie.Need-same-length Inv-loop μ-loop
-same-length c = c .before .loop .inv .1 .rest .size
-
-returns : tie.Need-returns Inv-loop μ-loop
-returns c =
-    let loop = c .before in
-    let e : loop .loop .b ≡ loop .before .before .before .args .n = omega arith in
-    rw e at (loop .loop .inv .1)
-
 pub keep-spec : {M : Type 1} → statement M
-keep-spec = tie.close (tie.spec Inv-loop μ-loop (λ c. (omega arith, made-none)) keep-row-requires (λ c. omega arith) (λ c. omega arith) loop-again same-length returns)
+keep-spec =
+    tie.close
+    (tie.spec Inv-loop μ-loop (λ c. (omega arith, made-none)) keep-row-requires (λ c. omega arith) (λ c. omega arith) loop-again
+    (λ c. c .before .loop .inv .1 .rest .size) (λ c. made-all (c .before .loop .inv .1) (omega arith)))

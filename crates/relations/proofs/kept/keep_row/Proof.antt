@@ -53,4 +53,7 @@ returns c =
     rw e at (loop .loop .inv .1)
 
 pub keep-row-spec : {M : Type 1} → statement M
-keep-row-spec = tie.close (tie.spec Inv-loop μ-loop (λ c. (omega arith, made-row-none)) has-requires stays-requires put-requires (λ c. omega arith) (λ c. omega arith) loop-again same-length returns)
+keep-row-spec =
+    tie.close
+    (tie.spec Inv-loop μ-loop (λ c. (omega arith, made-row-none)) has-requires stays-requires put-requires (λ c. omega arith) (λ c. omega arith) loop-again
+    same-length returns)

@@ -44,4 +44,7 @@ returns-2 c =
     (says-cell (q .by-hb .holds) (source-low _ (q .table) is to) (q .inside) (c .has .ensures))
 
 pub justified-spec : {M : Type 1} → statement M
-justified-spec = tie.close (tie.spec some-sought-requires (λ c κs. search needs) (λ c. search needs) some-sought-requires-2 (λ c. search needs) (λ c. search needs) has-requires returns returns-2)
+justified-spec =
+    tie.close
+    (tie.spec some-sought-requires (λ c κs. search needs) (λ c. search needs) some-sought-requires-2 (λ c. search needs) (λ c. search needs) has-requires
+    returns returns-2)

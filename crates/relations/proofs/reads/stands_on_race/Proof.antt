@@ -33,4 +33,7 @@ returns-2 : tie.Need-returns-2
 returns-2 c = says-no (λ z. absent-to (z .no-source) (sym (c .before .before .source .ensures) ∙ c .enum-told2 .given .1))
 
 pub stands-on-race-spec : {M : Type 1} → statement M
-stands-on-race-spec = tie.close (tie.spec (λ c κs. search needs) (λ c. search needs) (λ c κs. search needs) some-sought-requires some-sought-requires-2 (λ c. search needs) returns returns-2)
+stands-on-race-spec =
+    tie.close
+    (tie.spec (λ c κs. search needs) (λ c. search needs) (λ c κs. search needs) some-sought-requires some-sought-requires-2 (λ c. search needs) returns
+    returns-2)

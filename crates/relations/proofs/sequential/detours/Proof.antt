@@ -53,4 +53,7 @@ returns c =
     detours-made counted (made-given few (made .elsewhere-matrix .ensures)) hb few (then .compose .ensures) room (around .compose2 .ensures) (joined .join .ensures)
 
 pub detours-spec : {M : Type 1} → statement M
-detours-spec = tie.close (tie.spec (λ c. search needs) elsewhere-matrix-requires (λ c. search needs) (λ c. search needs) compose-requires (λ c. search needs) (λ c. search needs) compose-requires-2 (λ c. search needs) join-requires (λ c. search needs) returns)
+detours-spec =
+    tie.close
+    (tie.spec (λ c. search needs) elsewhere-matrix-requires (λ c. search needs) (λ c. search needs) compose-requires (λ c. search needs)
+    (λ c. search needs) compose-requires-2 (λ c. search needs) join-requires (λ c. search needs) returns)

@@ -24,10 +24,10 @@ writes-race-requires c κs =
     (placed, by .by-race)
 
 pub shows-pair-spec : {M : Type 1} → statement M
-shows-pair-spec = tie.close (tie.spec (λ c. search needs) (λ c. search needs) (λ c. search needs) conflict-before-requires (λ c. search needs) sources-conflict-requires (λ c. search needs) (λ c. search needs) writes-race-requires
-    (λ c. rw (c .enum-told .given .1) (says-no no-record))
-    (λ c. rw (c .enum-told2 .given .1) (says-no no-cycle))
-    (λ c. rw (c .before .enum-told3 .given .1) (says-pair (c .conflict-before .ensures)))
-    (λ c. rw (c .before .enum-told4 .given .1) (says-pair (c .sources-conflict .ensures)))
-    (λ c. rw (c .enum-told5 .given .1) (says-no no-cycle))
+shows-pair-spec =
+    tie.close
+    (tie.spec (λ c. search needs) (λ c. search needs) (λ c. search needs) conflict-before-requires (λ c. search needs) sources-conflict-requires
+    (λ c. search needs) (λ c. search needs) writes-race-requires (λ c. rw (c .enum-told .given .1) (says-no no-record))
+    (λ c. rw (c .enum-told2 .given .1) (says-no no-cycle)) (λ c. rw (c .before .enum-told3 .given .1) (says-pair (c .conflict-before .ensures)))
+    (λ c. rw (c .before .enum-told4 .given .1) (says-pair (c .sources-conflict .ensures))) (λ c. rw (c .enum-told5 .given .1) (says-no no-cycle))
     (λ c. rw (c .before .enum-told6 .given .1) (says-pair (c .writes-race .ensures))))

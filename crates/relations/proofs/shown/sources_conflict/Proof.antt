@@ -32,4 +32,7 @@ returns-2 c =
     (told-of-source (record { table = placed .table; col = placed .col; row = source-low _ (placed .table) is to }) cf (c .from-source .ensures))))
 
 pub sources-conflict-spec : {M : Type 1} → statement M
-sources-conflict-spec = tie.close (tie.spec (λ c κs. search needs) (λ c. search needs) (λ c. search needs) (λ c κs. search needs) (λ c. search needs) from-source-requires returns returns-2)
+sources-conflict-spec =
+    tie.close
+    (tie.spec (λ c κs. search needs) (λ c. search needs) (λ c. search needs) (λ c κs. search needs) (λ c. search needs) from-source-requires returns
+    returns-2)

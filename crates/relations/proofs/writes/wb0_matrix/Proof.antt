@@ -9,23 +9,23 @@ use Rattle.relations.proofs.writes.wb0_matrix.Tie as tie
 abbrev entry : tie.After-owners → tie.Start
 entry c = c .before .before .before .before .before .before
 
-abbrev owning : tie.After-hand-to → tie.After-owners
+abbrev owning : tie.After-hand-on → tie.After-owners
 owning c = c .before .before .before .before .before .before
 
-hand-to-requires : tie.Need-hand-to-requires
-hand-to-requires c κs =
+hand-on-requires : tie.Need-hand-on-requires
+hand-on-requires c κs =
     let owned = c .before .before .before .before .before in
     let (counted, hb, room) = entry owned .pre in
     let (own, sources) = owned .owners .ensures in
     handing counted own sources (few counted) (few counted) hb (square-few counted)
 
-hand-from-requires : tie.Need-hand-from-requires
-hand-from-requires c κs =
+hand-on-requires-2 : tie.Need-hand-on-requires-2
+hand-on-requires-2 c κs =
     let handed = c .before .before .before .before .before in
     let owned = owning handed in
     let (counted, hb, room) = entry owned .pre in
     let (own, sources) = owned .owners .ensures in
-    handing counted own sources (few counted) (few counted) (made-given (square-few counted) (handed .hand-to .ensures)) room
+    handing counted own sources (few counted) (few counted) (made-given (square-few counted) (handed .hand-on .ensures)) room
 
 keep-requires : tie.Need-keep-requires
 keep-requires c κs =
@@ -34,13 +34,16 @@ keep-requires c κs =
     let owned = owning handed in
     let (counted, hb, room) = entry owned .pre in
     let (own, sources) = owned .owners .ensures in
-    let to-owners = before-owned counted own sources hb (square-few counted) (handed .hand-to .ensures) in
-    (counted, owners-before counted own sources to-owners room (between .hand-from .ensures))
+    let to-owners = before-owned counted own sources hb (square-few counted) (handed .hand-on .ensures) in
+    (counted, owners-before counted own sources to-owners room (between .hand-on2 .ensures))
 
 returns : tie.Need-returns
 returns c =
     let kept = c .before .before in
-    made-again (kept .before .before .before .before .hand-from .ensures) (kept .keep .ensures)
+    made-again (kept .before .before .before .before .hand-on2 .ensures) (kept .keep .ensures)
 
 pub wb0-matrix-spec : {M : Type 1} → statement M
-wb0-matrix-spec = tie.close (tie.spec (λ c. search needs) (λ c. search needs) (λ c κs. search needs) (λ c. search needs) (λ c. search needs) (λ c. search needs) hand-to-requires (λ c. search needs) (λ c. search needs) (λ c. search needs) hand-from-requires keep-requires (λ c. search needs) returns)
+wb0-matrix-spec =
+    tie.close
+    (tie.spec (λ c. search needs) (λ c. search needs) (λ c κs. search needs) (λ c. search needs) (λ c. search needs) (λ c. search needs) hand-on-requires
+    (λ c. search needs) (λ c. search needs) (λ c. search needs) hand-on-requires-2 keep-requires (λ c. search needs) returns)
