@@ -1,7 +1,7 @@
 -- The text of a table's answer fits, and stands at the front of the buffer where it was written.
 use mathlib.Core.Path.{_≡_, refl, sym, ap, subst, _∙_}
 use mathlib.Core.List.{List, _++_}
-use Prim.Native.Nat.{ℕ, _+_, _*_, _<_, _≤_}
+use Prim.Native.Nat.{ℕ, _+_, _<_, _≤_}
 use native.Mathlib.Nat.{zero-add}
 use native.Mathlib.Omega.{arith}
 use lib.ListN.{length, take, drop}
@@ -12,16 +12,13 @@ use Rattle.refusals.specs.declared.Refusal.{Refusal}
 use Rattle.refusals.specs.declared.Refusal.the-variants as refusal
 use Rattle.refusals.specs.declared.Told.{Told}
 use Rattle.refusals.specs.Numbers.{at, faultNumber, told}
-use Rattle.model.specs.Findings.{Report, Reports}
 use Rattle.table.specs.declared.Tested.the-variants as tested
-use Rattle.table.specs.Events.{eventsOf}
 use Rattle.table.specs.Test.{FirstFault, first-fault, refused, TestAnswer, wrong-length, records}
 use Rattle.table.proofs.Front.{right-length}
 use Rattle.table.proofs.WellFormed.{sound-count}
 use Rattle.facts.proofs.Promise.{sound-table}
 use Rattle.text.specs.Text.{Written}
 use Rattle.text.proofs.Laws.{written-length}
-use Rattle.lines.specs.Lines.{reportText, refusedText}
 use Rattle.lines.specs.Room.{Room, longest}
 use Rattle.lines.specs.declared.Wrote.the-variants.{Refused, Length}
 use Rattle.lines.specs.Answer.{TextOf, TextAt, WriteAnswer}

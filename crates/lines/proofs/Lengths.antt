@@ -1,6 +1,6 @@
 -- How long the texts can be: numbers below a thousand have at most three digits.
 use mathlib.Core.Path.{_≡_, ap}
-use mathlib.Core.Option.{Option, none, some}
+use mathlib.Core.Option.{Option, some}
 use mathlib.Core.List.{List, [], _∷_, _++_}
 use Prim.Native.Nat.{ℕ, suc, _+_, _*_, _/_, _<_, _≤_}
 use native.Mathlib.Omega.{arith}

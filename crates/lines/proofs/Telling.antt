@@ -13,7 +13,7 @@ use Rattle.table.proofs.WellFormed.{sound-count}
 use Rattle.judge.specs.declared.Report.{Report}
 use Rattle.judge.specs.declared.Judged.{Judged}
 use Rattle.judge.specs.declared.Judged.the-variants.{Refused, Reported}
-use Rattle.judge.specs.Answer.{Witnesses, Tells, Roomy, Decides, JudgeAnswer}
+use Rattle.judge.specs.Answer.{Witnesses, Roomy, Decides, JudgeAnswer}
 use Rattle.lines.specs.Lines.{reportText, refusedText}
 use Rattle.lines.specs.Witnesses.{witnesses, AllWhole}
 use Rattle.lines.specs.Answer.{TextOf}
@@ -26,8 +26,8 @@ module _ {b before₁ before₂ : List ℕ} where
   refused-test roomy (Decides.bad-record ok _ x) = records ok x
 
   pub refusal-text :
-      {after₁ after₂ : List ℕ} {answer : Judged} {r : Refusal} {x : Told} → Roomy before₁ before₂ → JudgeAnswer b before₁ after₁ before₂ after₂ answer → answer ≡ Refused r → x ≡ told r
-      → TextOf b (refusedText x)
+      {after₁ after₂ : List ℕ} {answer : Judged} {r : Refusal} {x : Told} → Roomy before₁ before₂
+      → JudgeAnswer b before₁ after₁ before₂ after₂ answer → answer ≡ Refused r → x ≡ told r → TextOf b (refusedText x)
   refusal-text roomy a is-refused is-told =
       subst (λ (x : Told). TextOf b (refusedText x)) (sym is-told)
       (TextOf.refused (refused-test roomy (subst (λ (x : Judged). Decides b before₁ before₂ x (a .witness)) is-refused (a .decided))))
@@ -41,10 +41,12 @@ module _ {b before₁ before₂ : List ℕ} where
   lent-report :
       {x : Report} {w : Witnesses} → Decides b before₁ before₂ (Reported x) w → ReportThere b x (lent (w A1) before₁) (lent (w A4) before₂)
   lent-report {x} {w} (Decides.judged {n = n} ok _ passed tells) =
-      let test : TestAnswer b (tested.Sound n) = records ok passed in record {
+      let test : TestAnswer b (tested.Sound n) = records ok passed in
+      let are = witnesses-are before₁ before₂ (tells .right) (tells .means) in
+      record {
         text =
             subst (TextOf b)
-            (ap₂ (λ (k : ℕ) (v : Witnesses). reportText k v (x .verdict)) (sym (tells .events ∙ sound-count b n test)) (sym (witnesses-are before₁ before₂ (tells .right) (tells .means))))
+            (ap₂ (λ (k : ℕ) (v : Witnesses). reportText k v (x .verdict)) (sym (tells .events ∙ sound-count b n test)) (sym are))
             (TextOf.reported test (tells .right));
         whole = all-whole before₁ before₂ (tells .right) (tells .means);
       }

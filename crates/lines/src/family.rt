@@ -6,7 +6,7 @@ use text::put;
 use text::put_each;
 use text::put_spaced;
 ghost use mathlib.Core.Path.{_≡_};
-ghost use Prim.Native.Nat.{ℕ, _≤_};
+ghost use Prim.Native.Nat.{_≤_};
 ghost use lib.ListN.{take};
 ghost use Rattle.text.specs.Text.{Written};
 ghost use Rattle.findings.specs.Family.{inOrder, nameOf};

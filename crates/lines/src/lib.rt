@@ -11,7 +11,7 @@ use refusals::Refusal;
 use refusals::Told;
 use text::put;
 use text::put_spaced;
-ghost use Prim.Native.Nat.{ℕ, _≤_};
+ghost use Prim.Native.Nat.{_≤_};
 ghost use lib.ListN.{length};
 ghost use Rattle.text.specs.Text.{Written, spaced};
 ghost use Rattle.lines.specs.Lines.{line, verdictText, eventsWord, verdictWord, reportText, placeText, refusedText};

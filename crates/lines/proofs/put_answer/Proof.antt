@@ -44,4 +44,5 @@ returns-2 c =
 pub put-answer-spec : {M : Type 1} → statement M
 put-answer-spec =
     tie.close
-    (tie.spec (search needs) (search needs) (λ c κs. search needs) (search needs) (λ c κs. search needs) put-refused-requires (search needs) (search needs) (search needs) put-report-requires (search needs) returns (search needs) returns-2)
+    (tie.spec (search needs) (search needs) (λ c κs. search needs) (search needs) (λ c κs. search needs) put-refused-requires (search needs) (search needs)
+    (search needs) put-report-requires (search needs) returns (search needs) returns-2)
