@@ -11,11 +11,14 @@ use crate::places::NONE;
 use crate::places::ORDER;
 use crate::places::PARENT;
 use crate::places::READ;
+use crate::places::READ_HIGH;
 use crate::places::SOURCE;
 use crate::places::STORE;
 use crate::places::THREAD;
 use crate::places::UPDATE;
 use crate::places::WRITTEN;
+use crate::places::WRITTEN_HIGH;
+use crate::rules;
 use events::Event;
 use events::Link;
 use events::Order;
@@ -85,8 +88,11 @@ pub fn record_from(b: &[u8]) -> Record
     ensures { λ r. ⌜ r ≡ recordFrom (now (b .entry)) ⌝ }
 {
     let flags = b[FLAGS];
-    let read = value_from(flags % 2 == 1, word_of(b[READ], b[READ + 1]));
-    let written = value_from(2 <= flags, word_of(b[WRITTEN], b[WRITTEN + 1]));
+    let read = value_from(rules::read_u(flags), word_of(b[READ], b[READ_HIGH]));
+    let written = value_from(
+        rules::written_u(flags),
+        word_of(b[WRITTEN], b[WRITTEN_HIGH]),
+    );
     let event = event_from(b[KIND], order_from(b[ORDER]), b[LOCATION], read, written);
     Record {
         thread: b[THREAD],

@@ -7,12 +7,11 @@ mod written;
 ghost use mathlib.Core.Path.{_≡_};
 ghost use Prim.Native.Nat.{_+_, _*_, _≤_};
 ghost use lib.ListN.{length};
-ghost use Rattle.record.specs.Form.{decidedBy, decode, part, encode, overwritten};
+ghost use Rattle.record.specs.Form.{decode, part, encode, overwritten};
 use events::Record;
-use places::KIND;
-use places::ORDER;
 use places::SIZE;
 use refusals::Fault;
+use rules::ByteTest;
 pub use written::bytes_of;
 
 // What sixteen bytes are: a record, or which of the refusals 2 to 5 they get.
@@ -21,37 +20,15 @@ pub enum Decoded {
     Bad(Fault),
 }
 
-// The first test that fails is the answer.
-fn decided(mark: bool, row: bool, rest: bool, range: bool, r: Record) -> Decoded
-    ensures { λ d. ⌜ d ≡ decidedBy mark row rest range r ⌝ }
-{
-    if mark {
-        if row {
-            if rest {
-                if range {
-                    return Decoded::Good(r);
-                }
-                return Decoded::Bad(Fault::Range);
-            }
-            return Decoded::Bad(Fault::Rest);
-        }
-        return Decoded::Bad(Fault::Kind);
-    }
-    Decoded::Bad(Fault::Mark)
-}
-
 // The record that sixteen bytes are.
 pub fn read_part(b: &[u8]) -> Decoded
     requires { ⌜ length (now b) ≡ 16 ⌝ }
     ensures { λ r. ⌜ r ≡ decode (now (b .entry)) ⌝ }
 {
-    decided(
-        rules::marked_at(b),
-        rules::in_row(b[KIND], b[ORDER]),
-        rules::rested_at(b),
-        rules::in_range(b),
-        fields::record_from(b),
-    )
+    match rules::first_fault(b) {
+        ByteTest::Fine => Decoded::Good(fields::record_from(b)),
+        ByteTest::Faulty(f) => Decoded::Bad(f),
+    }
 }
 
 // Record n of a table.

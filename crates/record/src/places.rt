@@ -17,10 +17,14 @@ pub const LOCATION: usize = 7;
 
 pub const FLAGS: usize = 8;
 
-// The low bytes of the two values; the high bytes stand next to them.
+// The two values, low byte first.
 pub const READ: usize = 10;
 
+pub const READ_HIGH: usize = 11;
+
 pub const WRITTEN: usize = 12;
+
+pub const WRITTEN_HIGH: usize = 13;
 
 // The kinds.
 pub const INIT: u8 = 0;
