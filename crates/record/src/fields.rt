@@ -37,7 +37,8 @@ fn order_from(code: u8) -> Order
     }
 }
 
-fn link_from(byte: u8) -> Link
+// The link that a byte is.
+pub fn link_from(byte: u8) -> Link
     ensures { λ r. ⌜ r ≡ linkFrom byte ⌝ }
 {
     if byte == NONE {

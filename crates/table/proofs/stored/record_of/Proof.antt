@@ -1,7 +1,7 @@
--- `table::record_of` meets its contract: a row of the definition in each arm.
+-- `stored::record_of` meets its contract: a row of the definition in each arm.
 use borrow.Author.Needs.{needs}
-use Rattle.table.proofs.record_of.Statement.{statement}
-use Rattle.table.proofs.record_of.Tie as tie
+use Rattle.table.proofs.stored.record_of.Statement.{statement}
+use Rattle.table.proofs.stored.record_of.Tie as tie
 
 returns : tie.Need-returns
 returns c = rw (c .before .d .given .1)

@@ -1,9 +1,9 @@
--- `table::record_at` meets its contract: by those of its two calls.
+-- `stored::record_at` meets its contract: by those of its two calls.
 use mathlib.Core.Path.{ap, _∙_}
 use Rattle.table.specs.Events.{recordOf, eventsOf}
 use borrow.Author.Needs.{needs}
-use Rattle.table.proofs.record_at.Statement.{statement}
-use Rattle.table.proofs.record_at.Tie as tie
+use Rattle.table.proofs.stored.record_at.Statement.{statement}
+use Rattle.table.proofs.stored.record_at.Tie as tie
 
 returns : tie.Need-returns
 unfolding eventsOf
