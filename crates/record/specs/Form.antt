@@ -28,6 +28,10 @@ pick false a b = b
 
 -- ---- which byte holds what
 
+-- "The sixteen bytes of a record"
+abbrev pub recordSize : ℕ
+recordSize = 16
+
 abbrev pub byteAt : List ℕ → ℕ → ℕ
 byteAt b i = getD b i 0
 
@@ -229,8 +233,8 @@ encode r = bytesBy (r .thread) (r .parent) (r .source) (columnsOf (r .event))
 
 -- the sixteen bytes of record n
 abbrev pub part : List ℕ → ℕ → List ℕ
-part t n = take 16 (drop (16 * n) t)
+part t n = take recordSize (drop (recordSize * n) t)
 
 -- the table with these bytes as its record n, and every other byte as it was
 abbrev pub overwritten : List ℕ → ℕ → List ℕ → List ℕ
-overwritten t n bs = take (16 * n) t ++ (bs ++ drop 16 (drop (16 * n) t))
+overwritten t n bs = take (recordSize * n) t ++ (bs ++ drop recordSize (drop (recordSize * n) t))

@@ -2,7 +2,7 @@
 ghost use mathlib.Core.Path.{_≡_};
 ghost use Prim.Native.Nat.{_+_, _*_};
 ghost use lib.ListN.{length};
-ghost use Rattle.record.specs.Form.{orderFrom, linkFrom, valueFrom, eventFrom, recordFrom};
+ghost use Rattle.record.specs.Form.{recordSize, orderFrom, linkFrom, valueFrom, eventFrom, recordFrom};
 use crate::places::FLAGS;
 use crate::places::KIND;
 use crate::places::LOAD;
@@ -85,7 +85,7 @@ fn event_from(kind: u8, order: Order, location: u8, read: Value, written: Value)
 }
 
 pub fn record_from(b: &[u8]) -> Record
-    requires { ⌜ length (now b) ≡ 16 ⌝ }
+    requires { ⌜ length (now b) ≡ recordSize ⌝ }
     ensures { λ r. ⌜ r ≡ recordFrom (now (b .entry)) ⌝ }
 {
     let flags = b[FLAGS];

@@ -7,7 +7,7 @@ mod written;
 ghost use mathlib.Core.Path.{_≡_};
 ghost use Prim.Native.Nat.{_+_, _*_, _≤_};
 ghost use lib.ListN.{length};
-ghost use Rattle.record.specs.Form.{decode, part, encode, overwritten};
+ghost use Rattle.record.specs.Form.{recordSize, decode, part, encode, overwritten};
 use events::Record;
 pub use fields::link_from;
 use places::SIZE;
@@ -30,7 +30,7 @@ pub enum Decoded {
 
 // The record that sixteen bytes are.
 pub fn read_part(b: &[u8]) -> Decoded
-    requires { ⌜ length (now b) ≡ 16 ⌝ }
+    requires { ⌜ length (now b) ≡ recordSize ⌝ }
     ensures { λ r. ⌜ r ≡ decode (now (b .entry)) ⌝ }
 {
     match rules::first_fault(b) {
@@ -41,7 +41,7 @@ pub fn read_part(b: &[u8]) -> Decoded
 
 // Record n of a table.
 pub fn read_at(table: &[u8], n: usize) -> Decoded
-    requires { ⌜ 16 * n + 16 ≤ length (now table) ⌝ }
+    requires { ⌜ recordSize * n + recordSize ≤ length (now table) ⌝ }
     ensures { λ r. ⌜ r ≡ decode (part (now (table .entry)) n) ⌝ }
 {
     let at = SIZE * n;
@@ -50,7 +50,7 @@ pub fn read_at(table: &[u8], n: usize) -> Decoded
 
 // Writes a record at its place, and changes no other byte.
 pub fn write_at(table: &mut [u8], n: usize, r: Record)
-    requires { ⌜ 16 * n + 16 ≤ length (now table) ⌝ }
+    requires { ⌜ recordSize * n + recordSize ≤ length (now table) ⌝ }
     ensures { λ _. ⌜ now (table .exit) ≡ overwritten (now (table .entry)) n (encode r) ⌝ }
 {
     let new = bytes_of(r);

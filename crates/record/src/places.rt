@@ -3,6 +3,11 @@
 // How many bytes a record is.
 pub const SIZE: usize = 16;
 
+// "mark 45 56 (hex)"
+pub const MARK: usize = 0;
+
+pub const MARK_SECOND: usize = 1;
+
 pub const KIND: usize = 2;
 
 pub const ORDER: usize = 3;

@@ -1,13 +1,15 @@
 // The tests 2 to 5 on the sixteen bytes of a record. Each looks at its bytes from the least upward.
 ghost use mathlib.Core.Path.{_≡_};
 ghost use lib.ListN.{length};
-ghost use Rattle.record.specs.Form.{readsKind, writesKind, readU, writtenU, marked, inRow, flagsRest, restsAs, inRange, recordFrom, decode, unlessFaulty};
+ghost use Rattle.record.specs.Form.{recordSize, readsKind, writesKind, readU, writtenU, marked, inRow, flagsRest, restsAs, inRange, recordFrom, decode, unlessFaulty};
 ghost use Rattle.record.specs.Refused.{FirstRestless};
 use crate::places::FLAGS;
 use crate::places::INIT;
 use crate::places::KIND;
 use crate::places::LOAD;
 use crate::places::LOCATION;
+use crate::places::MARK;
+use crate::places::MARK_SECOND;
 use crate::places::NONE;
 use crate::places::ORDER;
 use crate::places::READ;
@@ -37,10 +39,10 @@ const ALLOWED: [[u8; 5]; 4] = [
 
 // Refusal 2 is not given.
 fn marked_at(b: &[u8]) -> bool
-    requires { ⌜ length (now b) ≡ 16 ⌝ }
+    requires { ⌜ length (now b) ≡ recordSize ⌝ }
     ensures { λ r. ⌜ r ≡ marked (now (b .entry)) ⌝ }
 {
-    (b[0] == 0x45) & (b[1] == 0x56)
+    (b[MARK] == 0x45) & (b[MARK_SECOND] == 0x56)
 }
 
 // Refusal 3 is not given.
@@ -105,9 +107,9 @@ fn rests(kind: u8, flags: u8, i: usize, byte: u8) -> bool
     }
 }
 
-// The least byte from 6 on that does not rest and should; 16 if there is none.
+// The least byte, from the source on, that does not rest and should; the size of a record if there is none.
 fn least_restless(b: &[u8]) -> usize
-    requires { ⌜ length (now b) ≡ 16 ⌝ }
+    requires { ⌜ length (now b) ≡ recordSize ⌝ }
     ensures { λ r. ⌜ FirstRestless (now (b .entry)) r ⌝ }
 {
     for i in SOURCE..SIZE {
@@ -120,7 +122,7 @@ fn least_restless(b: &[u8]) -> usize
 
 // Refusal 5 is not given.
 fn in_range(b: &[u8]) -> bool
-    requires { ⌜ length (now b) ≡ 16 ⌝ }
+    requires { ⌜ length (now b) ≡ recordSize ⌝ }
     ensures { λ r. ⌜ r ≡ inRange (now (b .entry)) ⌝ }
 {
     (b[THREAD] <= 15) & (b[LOCATION] <= 31)
@@ -128,7 +130,7 @@ fn in_range(b: &[u8]) -> bool
 
 // "numbers 2 to 8 in order within one; the first fault is the answer": 2 to 5.
 pub fn first_fault(b: &[u8]) -> ByteTest
-    requires { ⌜ length (now b) ≡ 16 ⌝ }
+    requires { ⌜ length (now b) ≡ recordSize ⌝ }
     ensures { λ r. ⌜ decode (now (b .entry)) ≡ unlessFaulty r (recordFrom (now (b .entry))) ⌝ }
 {
     if !marked_at(b) {

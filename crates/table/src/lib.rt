@@ -8,7 +8,7 @@ ghost use mathlib.Core.List.{_++_};
 ghost use Prim.Native.Nat.{_*_, _/_, _≤_};
 ghost use lib.ListN.{length, take};
 ghost use Rattle.record.specs.declared.Decoded.the-variants.{Good};
-ghost use Rattle.record.specs.Form.{encode};
+ghost use Rattle.record.specs.Form.{recordSize, encode};
 ghost use Rattle.table.specs.Computed.{checked};
 ghost use Rattle.table.specs.Events.{eventsOf};
 ghost use Rattle.table.specs.Fetched.{fetched, FetchAnswer};
@@ -72,7 +72,7 @@ fn check_decoded(table: &[u8], n: usize, d: Decoded) -> Checked
 // The test of a record that is to stand after the first n, "as if its bytes were read".
 pub fn check_new(table: &[u8], n: usize, r: Record) -> Checked
     requires { ⌜ PassingUse (now table) n ⌝ }
-    ensures { λ c. ⌜ CheckAnswer (take (16 * n) (now (table .entry)) ++ encode r) n c ⌝ }
+    ensures { λ c. ⌜ CheckAnswer (take (recordSize * n) (now (table .entry)) ++ encode r) n c ⌝ }
 {
     let new = record::bytes_of(r);
     check_decoded(table, n, record::read_part(&new))
@@ -80,8 +80,8 @@ pub fn check_new(table: &[u8], n: usize, r: Record) -> Checked
 
 // The test of the first `count` records.
 pub fn test_records(table: &[u8], count: usize) -> Tested
-    requires { ⌜ 16 * count ≤ length (now table) ⌝ }
-    ensures { λ r. ⌜ RecordsAnswer (take (16 * count) (now (table .entry))) r ⌝ }
+    requires { ⌜ recordSize * count ≤ length (now table) ⌝ }
+    ensures { λ r. ⌜ RecordsAnswer (take (recordSize * count) (now (table .entry))) r ⌝ }
 {
     for n in 0..count {
         match check_decoded(table, n, record::read_at(table, n)) {

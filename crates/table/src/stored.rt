@@ -2,6 +2,7 @@
 ghost use mathlib.Core.Path.{_≡_};
 ghost use Prim.Native.Nat.{_+_, _*_, _≤_};
 ghost use lib.ListN.{length};
+ghost use Rattle.record.specs.Form.{recordSize};
 ghost use Rattle.table.specs.Events.{recordOf, eventsOf};
 ghost use Rattle.table.specs.Part.{Part, Stands};
 use events::Event;
@@ -14,7 +15,7 @@ use record::places::THREAD;
 
 // The sixteen bytes of record n.
 pub fn part_at(table: &[u8], n: usize) -> &[u8]
-    requires { ⌜ 16 * n + 16 ≤ length (now table) ⌝ }
+    requires { ⌜ recordSize * n + recordSize ≤ length (now table) ⌝ }
     ensures { λ r. ⌜ Part (now (table .entry)) n (now r) ⌝ }
 {
     let at = SIZE * n;
@@ -53,7 +54,7 @@ fn record_of(d: Decoded) -> Record
 
 // Record n.
 pub fn record_at(table: &[u8], n: usize) -> Record
-    requires { ⌜ 16 * n + 16 ≤ length (now table) ⌝ }
+    requires { ⌜ recordSize * n + recordSize ≤ length (now table) ⌝ }
     ensures { λ r. ⌜ r ≡ eventsOf (now (table .entry)) .at n ⌝ }
 {
     record_of(record::read_at(table, n))

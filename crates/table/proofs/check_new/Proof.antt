@@ -19,7 +19,7 @@ check-decoded-requires : tie.Need-check-decoded-requires
 check-decoded-requires c κs =
     let entry = c .before .before .before .before in
     let a = entry .args in
-    front-stands (now (a .table)) (a .n) (entry .pre .held) (a .n) (omega arith) (entry .pre .passed)
+    front-stands (now (a .table)) (a .n) (entry .pre .held) _ (omega arith) (λ m h. entry .pre .passed m (omega arith))
 
 returns : tie.Need-returns
 returns c =

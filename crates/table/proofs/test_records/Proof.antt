@@ -28,7 +28,7 @@ check-decoded-requires : tie.Need-check-decoded-requires Inv-loop μ-loop
 check-decoded-requires c κs =
     let l = c .before .before in
     let entry = l .before .before in
-    front-stands (now (entry .args .table)) (entry .args .count) (entry .pre) (l .loop .n) (omega arith) (l .loop .inv .0)
+    front-stands (now (entry .args .table)) (entry .args .count) (entry .pre) _ (omega arith) (λ m h. l .loop .inv .0 m (omega arith))
 
 -- the answer for record n
 answer :

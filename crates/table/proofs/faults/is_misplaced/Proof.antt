@@ -1,5 +1,6 @@
 -- `faults::is_misplaced` meets its contract: each way out rewrites by the tests that led there.
 use mathlib.Core.Path.{sym, _∙_}
+use native.Mathlib.Omega.{arith}
 use borrow.Author.Tests.{le-ltb, lt-ltb}
 use Rattle.table.proofs.Standing.{stands-one}
 use borrow.Author.Needs.{needs}
@@ -13,9 +14,8 @@ returns c =
 
 thread-at-requires : tie.Need-thread-at-requires
 thread-at-requires c κs =
-    let earlier = c .before .before in
-    let entry = earlier .before .before in
-    stands-one (entry .pre) (entry .args .p) (earlier .if1 .taken)
+    let entry = c .before .before .before .before in
+    stands-one (entry .pre) _ (omega arith)
 
 returns-2 : tie.Need-returns-2
 returns-2 c =

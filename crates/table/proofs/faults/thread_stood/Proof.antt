@@ -24,8 +24,7 @@ loop-holds c = (refl, omega arith)
 
 thread-at-requires : tie.Need-thread-at-requires Inv-loop μ-loop
 thread-at-requires c κs =
-    let l = c .before in
-    stands-one (l .before .before .pre) (l .loop .m) (omega arith)
+    stands-one (c .before .before .before .pre) _ (omega arith)
 
 loop-again : tie.Need-loop-again Inv-loop μ-loop
 loop-again c =

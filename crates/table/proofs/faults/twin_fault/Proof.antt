@@ -23,8 +23,7 @@ loop-holds c = (refl, omega arith)
 
 is-twin-requires : tie.Need-is-twin-requires Inv-loop μ-loop
 is-twin-requires c κs =
-    let l = c .before in
-    stands-one (l .before .before .pre) (l .loop .m) (omega arith)
+    stands-one (c .before .before .before .pre) _ (omega arith)
 
 loop-again : tie.Need-loop-again Inv-loop μ-loop
 loop-again c =
