@@ -81,19 +81,13 @@ sc-by-code Rel = refl
 sc-by-code Ar = refl
 sc-by-code Sc = refl
 
-pub acquires-by-code : (o : Order) → (eqb (codeOf o) 1 || (eqb (codeOf o) 3 || eqb (codeOf o) 4)) ≡ acquires o
-acquires-by-code Na = refl
-acquires-by-code Acq = refl
-acquires-by-code Rel = refl
-acquires-by-code Ar = refl
-acquires-by-code Sc = refl
-
-pub releases-by-code : (o : Order) → (eqb (codeOf o) 2 || (eqb (codeOf o) 3 || eqb (codeOf o) 4)) ≡ releases o
-releases-by-code Na = refl
-releases-by-code Acq = refl
-releases-by-code Rel = refl
-releases-by-code Ar = refl
-releases-by-code Sc = refl
+order-back : (o : Order) → orderFrom (codeOf o) ≡ o
+unfolding orderFrom
+order-back Na = refl
+order-back Acq = refl
+order-back Rel = refl
+order-back Ar = refl
+order-back Sc = refl
 
 -- ---- what the bytes of a record of a sound table tell
 
@@ -123,16 +117,13 @@ module _ {b : List ℕ} {n : ℕ} (one : One b n) where
       kind-told locationOf (λ k. pick (eqb k 0) none (some (locationByte bytes)))
       (location-by (orderFrom (orderByte bytes)) (locationByte bytes) (readFrom bytes) (writtenFrom bytes)) refl
 
-  -- a test of its order, by the order's code
-  pub order-told :
-      (test : Order → Bool) (by-code : ℕ → Bool) → ((o : Order) → by-code (codeOf o) ≡ test o) → {o : ℕ} → o ≡ orderByte bytes
-      → by-code o ≡ test (orderOf (eventsOf b .at n .event))
-  order-told test by-code same e =
-      ap by-code (e ∙ sym (order-of-row (kindByte bytes) (orderByte bytes) (read-of one .row)))
-      ∙ (same (pick (eqb (kindByte bytes) 0) Na (orderFrom (orderByte bytes)))
-      ∙ ap test
-      (kind-told orderOf (λ k. pick (eqb k 0) Na (orderFrom (orderByte bytes)))
-      (order-by (orderFrom (orderByte bytes)) (locationByte bytes) (readFrom bytes) (writtenFrom bytes)) refl))
+  -- the order that the code stands for: a code in an Init's row is NA's
+  pub order-told : orderFrom (orderByte bytes) ≡ orderOf (eventsOf b .at n .event)
+  order-told =
+      ap orderFrom (sym (order-of-row (kindByte bytes) (orderByte bytes) (read-of one .row)))
+      ∙ (order-back (pick (eqb (kindByte bytes) 0) Na (orderFrom (orderByte bytes)))
+      ∙ kind-told orderOf (λ k. pick (eqb k 0) Na (orderFrom (orderByte bytes)))
+      (order-by (orderFrom (orderByte bytes)) (locationByte bytes) (readFrom bytes) (writtenFrom bytes)) refl)
 
 located : (i j : Bool) (x y : ℕ) → ((not i && not j) && eqb x y) ≡ sameLocation (pick i none (some x)) (pick j none (some y))
 located true true x y = refl

@@ -7,23 +7,26 @@ ghost use Rattle.table.specs.Events.{eventsOf};
 ghost use Rattle.facts.specs.Sound.{One, Two};
 use events::Link;
 use events::Order;
+use record::link_from;
+use record::order_from;
+use record::places::INIT;
+use record::places::KIND;
+use record::places::LOAD;
+use record::places::LOCATION;
+use record::places::ORDER;
+use record::places::PARENT;
+use record::places::SIZE;
+use record::places::SOURCE;
+use record::places::STORE;
+use record::places::THREAD;
+use record::places::UPDATE;
 
 // Byte i of record n.
 fn byte(table: &[u8], n: usize, i: usize) -> u8
     requires { ⌜ One (now table) n × (i < 16) ⌝ }
     ensures { λ r. ⌜ r ≡ byteAt (part (now (table .entry)) n) i ⌝ }
 {
-    table[16 * n + i]
-}
-
-fn link_of(byte: u8) -> Link
-    ensures { λ r. ⌜ r ≡ linkFrom byte ⌝ }
-{
-    if byte == 255 {
-        Link::Absent
-    } else {
-        Link::To(byte)
-    }
+    table[SIZE * n + i]
 }
 
 // The parent of record n.
@@ -31,7 +34,7 @@ pub fn parent(table: &[u8], n: usize) -> Link
     requires { ⌜ One (now table) n ⌝ }
     ensures { λ r. ⌜ r ≡ eventsOf (now (table .entry)) .at n .parent ⌝ }
 {
-    link_of(byte(table, n, 5))
+    link_from(byte(table, n, PARENT))
 }
 
 // The source of record n.
@@ -39,7 +42,7 @@ pub fn source(table: &[u8], n: usize) -> Link
     requires { ⌜ One (now table) n ⌝ }
     ensures { λ r. ⌜ r ≡ eventsOf (now (table .entry)) .at n .source ⌝ }
 {
-    link_of(byte(table, n, 6))
+    link_from(byte(table, n, SOURCE))
 }
 
 // The thread of record n.
@@ -47,7 +50,7 @@ pub fn thread(table: &[u8], n: usize) -> u8
     requires { ⌜ One (now table) n ⌝ }
     ensures { λ r. ⌜ r ≡ eventsOf (now (table .entry)) .at n .thread ⌝ }
 {
-    byte(table, n, 4)
+    byte(table, n, THREAD)
 }
 
 // Whether record n reads: a load or an update.
@@ -55,8 +58,8 @@ pub fn reads(table: &[u8], n: usize) -> bool
     requires { ⌜ One (now table) n ⌝ }
     ensures { λ r. ⌜ r ≡ isRead (eventsOf (now (table .entry)) .at n .event) ⌝ }
 {
-    let kind = byte(table, n, 2);
-    (kind == 1) | (kind == 3)
+    let kind = byte(table, n, KIND);
+    (kind == LOAD) | (kind == UPDATE)
 }
 
 // Whether record n writes: a store or an update.
@@ -64,8 +67,16 @@ pub fn writes(table: &[u8], n: usize) -> bool
     requires { ⌜ One (now table) n ⌝ }
     ensures { λ r. ⌜ r ≡ isWrite (eventsOf (now (table .entry)) .at n .event) ⌝ }
 {
-    let kind = byte(table, n, 2);
-    (kind == 2) | (kind == 3)
+    let kind = byte(table, n, KIND);
+    (kind == STORE) | (kind == UPDATE)
+}
+
+// The order of record n; an Init's is NA.
+fn order(table: &[u8], n: usize) -> Order
+    requires { ⌜ One (now table) n ⌝ }
+    ensures { λ r. ⌜ r ≡ orderOf (eventsOf (now (table .entry)) .at n .event) ⌝ }
+{
+    order_from(byte(table, n, ORDER))
 }
 
 // Whether the order of record n is NA.
@@ -73,7 +84,7 @@ pub fn not_atomic(table: &[u8], n: usize) -> bool
     requires { ⌜ One (now table) n ⌝ }
     ensures { λ r. ⌜ r ≡ isNA (orderOf (eventsOf (now (table .entry)) .at n .event)) ⌝ }
 {
-    byte(table, n, 3) == Order::NA
+    order(table, n).code() == Order::NA
 }
 
 // Whether the order of record n is SC.
@@ -81,7 +92,7 @@ pub fn sequential(table: &[u8], n: usize) -> bool
     requires { ⌜ One (now table) n ⌝ }
     ensures { λ r. ⌜ r ≡ isSC (orderOf (eventsOf (now (table .entry)) .at n .event)) ⌝ }
 {
-    byte(table, n, 3) == Order::SC
+    order(table, n).code() == Order::SC
 }
 
 // Whether the order of record n acquires.
@@ -89,8 +100,7 @@ pub fn acquiring(table: &[u8], n: usize) -> bool
     requires { ⌜ One (now table) n ⌝ }
     ensures { λ r. ⌜ r ≡ acquires (orderOf (eventsOf (now (table .entry)) .at n .event)) ⌝ }
 {
-    let order = byte(table, n, 3);
-    (order == Order::ACQ) | ((order == Order::AR) | (order == Order::SC))
+    order(table, n).acquires()
 }
 
 // Whether the order of record n releases.
@@ -98,8 +108,7 @@ pub fn releasing(table: &[u8], n: usize) -> bool
     requires { ⌜ One (now table) n ⌝ }
     ensures { λ r. ⌜ r ≡ releases (orderOf (eventsOf (now (table .entry)) .at n .event)) ⌝ }
 {
-    let order = byte(table, n, 3);
-    (order == Order::REL) | ((order == Order::AR) | (order == Order::SC))
+    order(table, n).releases()
 }
 
 // Whether records a and b have one location; an Init has none.
@@ -107,6 +116,6 @@ pub fn same_location(table: &[u8], a: usize, b: usize) -> bool
     requires { ⌜ Two (now table) a b ⌝ }
     ensures { λ r. ⌜ r ≡ oneLocation (eventsOf (now (table .entry)) .at a .event) (eventsOf (now (table .entry)) .at b .event) ⌝ }
 {
-    let located = !(byte(table, a, 2) == 0) & !(byte(table, b, 2) == 0);
-    located & (byte(table, a, 7) == byte(table, b, 7))
+    let located = !(byte(table, a, KIND) == INIT) & !(byte(table, b, KIND) == INIT);
+    located & (byte(table, a, LOCATION) == byte(table, b, LOCATION))
 }

@@ -25,7 +25,7 @@ use events::Order;
 use events::Record;
 use events::Value;
 
-fn order_from(code: u8) -> Order
+pub fn order_from(code: u8) -> Order
     ensures { λ r. ⌜ r ≡ orderFrom code ⌝ }
 {
     match code {

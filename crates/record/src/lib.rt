@@ -10,6 +10,7 @@ ghost use lib.ListN.{length};
 ghost use Rattle.record.specs.Form.{recordSize, decode, part, encode, overwritten};
 use events::Record;
 pub use fields::link_from;
+pub use fields::order_from;
 use places::SIZE;
 use refusals::Fault;
 use rules::ByteTest;

@@ -8,7 +8,7 @@ use Rattle.facts.proofs.parent.Statement.{statement}
 use Rattle.facts.proofs.parent.Tie as tie
 
 returns : tie.Need-returns
-returns c = c .link-of .ensures ∙ (ap linkFrom (c .before .byte .ensures) ∙ field-told (c .before .before .before .pre) (λ (r : Record). r .parent))
+returns c = c .link-from .ensures ∙ (ap linkFrom (c .before .byte .ensures) ∙ field-told (c .before .before .before .pre) (λ (r : Record). r .parent))
 
 pub parent-spec : {M : Type 1} → statement M
 parent-spec = tie.close (tie.spec (λ c κs. search needs) (λ c κs. search needs) returns)
