@@ -1,5 +1,5 @@
 -- A kept record's bytes hold the same record with its links renumbered.
-use mathlib.Core.Path.{_≡_, refl, sym, subst, subst⁻¹, ap, ap₂, _∙_}
+use mathlib.Core.Path.{_≡_, refl, sym, subst⁻¹, ap, ap₂, _∙_}
 use mathlib.Core.Bool.{Bool, true, false}
 use mathlib.Core.List.{List}
 use Prim.Native.Nat.{ℕ}

@@ -16,7 +16,8 @@ find-in-requires c κs =
     let entry = c .before .before .before .before .before .before .before .before .before .before .before .before .before .before .before .before .before .before .before .before .before .before .before .before .before in
     let (counted, roomy) = entry .pre in
     let make-all = c .before .before .before .before .before .before .before .before .before .before .before .before .before .before .make-all in
-    let made = make-all .ensures in (
+    let made = make-all .ensures in
+    (
       counted,
       record { by-cf = made .holds-cf; by-hb = made .holds-hb; by-race = made .holds-race },
       record { by-wb0 = made .holds-wb0; by-steps = made .holds-sc; room-first = omega (arith, few counted, roomy .first); room-second = omega (arith, few counted, roomy .second) },
