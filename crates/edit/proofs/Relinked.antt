@@ -1,5 +1,5 @@
 -- A kept record's bytes hold the same record with its links renumbered.
-use mathlib.Core.Path.{_≡_, refl, sym, subst, subst⁻¹, ap, ap₂, _∙_}
+use mathlib.Core.Path.{_≡_, refl, sym, subst⁻¹, ap, ap₂, _∙_}
 use mathlib.Core.Bool.{Bool, true, false}
 use mathlib.Core.List.{List}
 use Prim.Native.Nat.{ℕ}
@@ -9,8 +9,9 @@ use lib.ListN.{length}
 use borrow.Author.Tests.{eq-eqb, ne-eqb}
 use Rattle.events.specs.declared.Link.{Link}
 use Rattle.events.specs.declared.Record.{Record}
+use Rattle.refusals.specs.declared.Fault.{Fault}
 use Rattle.laws.proofs.Says.{says-eq, says-dec}
-use Rattle.record.specs.declared.Decoded.the-variants.{Good}
+use Rattle.record.specs.declared.Decoded.the-variants.{Good, Bad}
 use Rattle.record.specs.Form.{threadByte, parentByte, sourceByte, linkFrom, recordFrom, decidedBy, decode}
 use Rattle.record.proofs.BytesBack.{firsts, listed}
 use Rattle.record.proofs.RoundTrip.{passed}
@@ -33,14 +34,17 @@ module _ (f : ℕ → ℕ) (byte : ℕ) (low : ¬ (byte ≡ 255) → ¬ (f byte 
       go (yes e) = rw (eq-eqb byte 255 e)
       go (no n) = rw (ne-eqb byte 255 n) (ne-eqb (f byte) 255 (low n))
 
+not-good : {A : Type 0} {f : Fault} {r : Record} → Bad f ≡ Good r → A
+not-good e = absurd (let z : _≡_ {A = ℕ} 0 1 = cc in omega arith)
+
 -- the tests decide alike whatever record they are asked of
 decided-other : (m w s g : Bool) (x y r : Record) → decidedBy m w s g x ≡ Good r → decidedBy m w s g y ≡ Good y
 unfolding decidedBy
 decided-other true true true true x y r e = refl
-decided-other true true true false x y r e = absurd (let z : _≡_ {A = ℕ} 0 1 = cc in omega arith)
-decided-other true true false g x y r e = absurd (let z : _≡_ {A = ℕ} 0 1 = cc in omega arith)
-decided-other true false s g x y r e = absurd (let z : _≡_ {A = ℕ} 0 1 = cc in omega arith)
-decided-other false w s g x y r e = absurd (let z : _≡_ {A = ℕ} 0 1 = cc in omega arith)
+decided-other true true true false x y r e = not-good e
+decided-other true true false g x y r e = not-good e
+decided-other true false s g x y r e = not-good e
+decided-other false w s g x y r e = not-good e
 
 module _ (f : ℕ → ℕ) (p : List ℕ) (r : Record)
     (parent : ¬ (parentByte p ≡ 255) → ¬ (f (parentByte p) ≡ 255))

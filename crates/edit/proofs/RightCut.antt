@@ -3,24 +3,25 @@ use mathlib.Core.Path.{_≡_, refl, sym, subst, subst⁻¹, ap, _∙_}
 use mathlib.Core.Bool.{Bool}
 use mathlib.Core.List.{List}
 use mathlib.Core.Option.{none}
-use Prim.Native.Nat.{ℕ, zero, suc, _*_, _<_}
+use Prim.Native.Nat.{ℕ, _*_, _<_}
 use native.Mathlib.Omega.{arith}
 use native.Mathlib.Decide.{decLt}
 use lib.Dec.{T}
 use lib.ListN.{length, take, drop}
 use lib.Seq.{take-at}
 use Rattle.laws.specs.Least.{Least, LeastNumber}
-use Rattle.laws.proofs.Says.{by-dec, says-T, says-dec}
+use Rattle.laws.proofs.Says.{by-dec, says-T, says-dec, says-lt, says-and, says-any, says-any-below, says-iff}
 use Rattle.record.specs.declared.Decoded.the-variants.{Good}
 use Rattle.record.specs.Form.{parentByte, sourceByte, decode, part}
 use Rattle.events.specs.Words.{isWrite}
-use Rattle.model.specs.Table.{Table, Inside, Write}
-use Rattle.model.specs.Relations.{Race, EarlierRace}
+use Rattle.model.specs.Table.{Table, Inside}
 use Rattle.model.specs.WellFormed.{WellFormed}
 use Rattle.model.specs.Cut.{newNumber, renumbered, Complete, Selection, CutOf, NoFaultInvented}
 use Rattle.model.proofs.CutNumbers.{oldNumber, new-at-most, old-inside, old-kept, new-old}
 use Rattle.model.proofs.Cutting.{cut-invents-no-fault}
-use Rattle.model.proofs.Decide.{race-dec}
+use Rattle.model.proofs.MirrorTells.{race-told}
+use Rattle.model.proofs.Within.{race-within}
+use Rattle.refusals.specs.declared.Refusal.{Refusal}
 use Rattle.table.specs.declared.Tested.the-variants as tested
 use Rattle.table.specs.Events.{countOf, eventsOf}
 use Rattle.table.specs.Test.{lengthOk, Passes, RecordsAnswer, sound, TestAnswer, records}
@@ -30,35 +31,18 @@ use Rattle.table.proofs.WellFormed.{sound-count, events-end}
 use Rattle.facts.specs.Sound.{SoundTable}
 use Rattle.facts.proofs.Promise.{sound-table}
 use Rattle.edit.specs.declared.cutting.CutDown.{CutDown}
-use Rattle.edit.specs.declared.cutting.CutDown.the-variants.{Kept}
+use Rattle.edit.specs.declared.cutting.CutDown.the-variants.{Refused, Kept}
 use Rattle.edit.specs.Selection.{Refused9, empty, past-count}
-use Rattle.edit.specs.Cut.{keptBytes, Lacking, Whole, Decides, bad-table, bad-selection, lacking, no-room, good, CutAnswer, RightCut}
+use Rattle.edit.specs.Cut.{keptBytes, RaceKept, Lacking, Whole, Decides, bad-table, bad-selection, lacking, no-room, good, CutAnswer, RightCut}
 use Rattle.edit.proofs.KeptBytes.{kept-length, kept-part}
 use Rattle.edit.proofs.RecordLinks.{earlier}
 use Rattle.edit.proofs.Relinked.{decode-renumbered}
 
 -- ---- a selection that is not refused
 
--- whether some number below n has P
-search-below : {P : ℕ → Type 0} → ((i : ℕ) → Dec (P i)) → (n : ℕ) → Dec ((i : ℕ) × ((i < n) × P i))
-search-below {P} dec zero = no (λ (i, (l, _)). absurd (omega arith))
-search-below {P} dec (suc n) = go (dec n) (search-below dec n)
-  where
-    last : ¬ P n → ¬ ((i : ℕ) × ((i < n) × P i)) → ¬ ((i : ℕ) × ((i < suc n) × P i))
-    last not below (i, (l, p)) = place (decLt i n)
-      where
-        place : Dec (i < n) → ⊥
-        place (yes h) = below (i, (h, p))
-        place (no h) = let e : i ≡ n = omega arith in not (subst P e p)
-
-    go : Dec (P n) → Dec ((i : ℕ) × ((i < n) × P i)) → Dec ((i : ℕ) × ((i < suc n) × P i))
-    go (yes p) before = yes (n, (omega arith, p))
-    go (no not) (yes (i, (l, p))) = yes (i, (omega arith, p))
-    go (no not) (no below) = no (last not below)
-
 module _ (k : ℕ → Bool) (t : Table) (W : WellFormed t) where
   some-kept : ¬ Refused9 k (t .count) → (n : ℕ) × (Inside t n × T (k n))
-  some-kept fine = by-dec (search-below (λ i. says-dec (says-T (k i))) (t .count)) none-kept
+  some-kept fine = by-dec (says-dec (says-any-below (λ i _. says-T (k i)))) none-kept
     where
       none-kept : ¬ ((n : ℕ) × (Inside t n × T (k n))) → ⊥
       none-kept not = fine (empty (λ n is. place n is (decLt n (t .count))))
@@ -78,19 +62,11 @@ module _ (k : ℕ → Bool) (t : Table) (W : WellFormed t) where
       lacks : ¬ Complete k t n → ⊥
       lacks not = fine (record { inside = h; kept = is; incomplete = not })
 
-      racing : Dec ((w : ℕ) × (T (k w) × EarlierRace t w n))
-      racing = by (search-below (λ w. kept-race w (says-dec (says-T (k w))) (decLt w n) (says-dec (says-T (isWrite (t .at w .event)))) (race-dec W w n)) n)
-        where
-          by : Dec ((w : ℕ) × ((w < n) × (T (k w) × EarlierRace t w n))) → Dec ((w : ℕ) × (T (k w) × EarlierRace t w n))
-          by (yes (w, (l, r))) = yes (w, r)
-          by (no not) = no (λ (w, (is, r)). not (w, (r .earlier, (is, r))))
-
-          kept-race : (w : ℕ) → Dec (T (k w)) → Dec (w < n) → Dec (Write t w) → Dec (Race t w n) → Dec (T (k w) × EarlierRace t w n)
-          kept-race w (yes is) (yes l) (yes write) (yes race) = yes (is, record { earlier = l; write = write; race = race })
-          kept-race w (no not) l write race = no (λ (is, r). not is)
-          kept-race w (yes is) (no not) write race = no (λ (_, r). not (r .earlier))
-          kept-race w (yes is) (yes l) (no not) race = no (λ (_, r). not (r .write))
-          kept-race w (yes is) (yes l) (yes write) (no not) = no (λ (_, r). not (r .race))
+      racing : Dec (RaceKept k t n)
+      racing = says-dec (says-any (λ w (_, r). race-within W .left (r .race)) (λ w l.
+          says-and (says-T (k w))
+          (says-iff (λ (e, (write, race)). record { earlier = e; write = write; race = race }) (λ r. (r .earlier, (r .write, r .race)))
+          (says-and (says-lt w n) (says-and (says-T (isWrite (t .at w .event))) (race-told W .each w n l h))))))
 
   selection : ¬ Refused9 k (t .count) → LeastNumber (Lacking k t) none → Selection k t
   selection fine (Least.absent lacks) = record { some-kept = some-kept fine; complete = λ n h is. nothing-lacked n h is (lacks n) }
@@ -160,11 +136,14 @@ module _ (b : List ℕ) (k : ℕ → Bool) (S : SoundTable b) where
     right : RightCut b k (newNumber k (t .count)) cut
     right = record { sound = cut-sound; cut = is-cut; no-fault = invents-nothing }
 
+not-kept : {A : Type 0} {r : Refusal} {n : ℕ} → Refused r ≡ Kept n → A
+not-kept e = absurd (let z : _≡_ {A = ℕ} 0 1 = cc in omega arith)
+
 kept-whole : {b before : List ℕ} {k : ℕ → Bool} {n : ℕ} {a : CutDown} → Decides b k before a → a ≡ Kept n → (m : ℕ) × (Whole b k m × (n ≡ newNumber k m))
-kept-whole (bad-table _) e = absurd (let z : _≡_ {A = ℕ} 0 1 = cc in omega arith)
-kept-whole (bad-selection _ _ _) e = absurd (let z : _≡_ {A = ℕ} 0 1 = cc in omega arith)
-kept-whole (lacking _ _ _) e = absurd (let z : _≡_ {A = ℕ} 0 1 = cc in omega arith)
-kept-whole (no-room _ _ _) e = absurd (let z : _≡_ {A = ℕ} 0 1 = cc in omega arith)
+kept-whole (bad-table _) e = not-kept e
+kept-whole (bad-selection _ _ _) e = not-kept e
+kept-whole (lacking _ _ _) e = not-kept e
+kept-whole (no-room _ _ _) e = not-kept e
 kept-whole (good {n = m} w _) e = (m, (w, cc))
 
 -- Demand 3, as one theorem about what the cut wrote

@@ -11,6 +11,7 @@ use Rattle.refusals.specs.Numbers.{at, told}
 use Rattle.laws.specs.Least.{LeastNumber}
 use Rattle.record.specs.Form.{pick, parentByte, sourceByte, part}
 use Rattle.model.specs.Table.{Table, Inside}
+use Rattle.model.specs.Relations.{EarlierRace}
 use Rattle.model.specs.Cut.{newNumber, Complete, CutOf, NoFaultInvented}
 use Rattle.table.specs.declared.Tested.the-variants as tested
 use Rattle.table.specs.Events.{eventsOf}
@@ -39,6 +40,10 @@ abbrev pub cutBytes : (ℕ → Bool) → List ℕ → ℕ → List ℕ → List 
 cutBytes k b n before = keptBytes k b n ++ drop (16 * newNumber k n) before
 
 -- ---- what is answered
+
+-- where n stands on a race: "one of those racing writes" is kept
+abbrev pub RaceKept : (ℕ → Bool) → Table → ℕ → Type 0
+RaceKept k t n = (w : ℕ) × (T (k w) × EarlierRace t w n)
 
 -- 10: "a kept record lacks its parent, its source, or its racing write"
 pub record Lacking (k : ℕ → Bool) (t : Table) (n : ℕ) : Type 0 where

@@ -7,12 +7,12 @@ ghost use Rattle.events.specs.declared.Link.the-variants.{To};
 ghost use Rattle.laws.specs.Says.{Says};
 ghost use Rattle.laws.specs.Least.{LeastNumber};
 ghost use Rattle.matrix.specs.Matrix.{Square, Made};
-ghost use Rattle.model.specs.Relations.{Hb, Race, EarlierRace, StandsOnRace};
+ghost use Rattle.model.specs.Relations.{Hb, Race, StandsOnRace};
 ghost use Rattle.table.specs.Events.{eventsOf};
 ghost use Rattle.facts.specs.Sound.{Counted};
 ghost use Rattle.relations.specs.Given.{Given};
 ghost use Rattle.edit.specs.Columns.{keptBy, Judging, lackOf};
-ghost use Rattle.edit.specs.Cut.{Lacking};
+ghost use Rattle.edit.specs.Cut.{RaceKept, Lacking};
 use events::Link;
 use facts::parent;
 use facts::source;
@@ -43,7 +43,7 @@ fn link_kept(kept: &[u8], link: Link) -> bool
 // A write that is kept races with n, earlier in the table.
 fn any_kept(table: &[u8], kept: &[u8], race: &[u8], count: usize, n: usize) -> bool
     requires { ⌜ Counted (now table) count × Given count (Race (eventsOf (now table))) (now race) × (count ≤ length (now kept)) × (n < count) ⌝ }
-    ensures { λ r. ⌜ Says r ((w : ℕ) × (T (keptBy (now (kept .entry)) w) × EarlierRace (eventsOf (now (table .entry))) w n)) ⌝ }
+    ensures { λ r. ⌜ Says r (RaceKept (keptBy (now (kept .entry))) (eventsOf (now (table .entry))) n) ⌝ }
 {
     let mut found = false;
     for w in 0..count {
@@ -55,7 +55,7 @@ fn any_kept(table: &[u8], kept: &[u8], race: &[u8], count: usize, n: usize) -> b
 // Where n stands on a race, "one of those racing writes" is kept.
 fn race_kept(table: &[u8], kept: &[u8], hb: &[u8], race: &[u8], count: usize, n: usize) -> bool
     requires { ⌜ Judging (now table) count (now kept) (now hb) (now race) × (n < count) ⌝ }
-    ensures { λ r. ⌜ Says r (StandsOnRace (eventsOf (now (table .entry))) n → (w : ℕ) × (T (keptBy (now (kept .entry)) w) × EarlierRace (eventsOf (now (table .entry))) w n)) ⌝ }
+    ensures { λ r. ⌜ Says r (StandsOnRace (eventsOf (now (table .entry))) n → RaceKept (keptBy (now (kept .entry))) (eventsOf (now (table .entry))) n) ⌝ }
 {
     !stands_on_race(table, hb, race, count, n) | any_kept(table, kept, race, count, n)
 }

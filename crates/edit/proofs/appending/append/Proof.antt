@@ -1,4 +1,5 @@
 -- `appending::append` meets its contract: the new record is written only where its count is answered.
+use native.Mathlib.Omega.{arith}
 use borrow.Author.Needs.{needs}
 use Rattle.edit.proofs.NewRecord.{count-ready}
 use Rattle.edit.proofs.appending.append.Statement.{statement}
@@ -6,7 +7,7 @@ use Rattle.edit.proofs.appending.append.Tie as tie
 
 write-at-requires : tie.Need-write-at-requires
 write-at-requires c κs =
-    count-ready (c .before .before .before .answer .ensures) (c .before .enum-told .given .1) .room
+    omega (arith, count-ready (c .before .before .before .answer .ensures) (c .before .enum-told .given .1) .room)
 
 returns : tie.Need-returns
 returns c =
