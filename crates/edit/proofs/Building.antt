@@ -8,7 +8,6 @@ use lib.Seq.{take-at, drop-at, drop-drop}
 use Rattle.limits.specs.Limit.{limit}
 use Rattle.record.specs.Form.{encode, overwritten}
 use Rattle.record.specs.Fits.{Fits}
-use Rattle.record.proofs.Parts.{encode-whole}
 use Rattle.model.specs.Table.{Table, Inside}
 use Rattle.model.specs.WellFormed.{WellFormed}
 use Rattle.table.specs.declared.Tested.the-variants as tested
@@ -31,8 +30,7 @@ module _ (t : Table) (well : WellFormed t) (fits : (n : ℕ) → Inside t n → 
   front-passes n h m l =
       passes-alike (bytesOf t) (written (t .at) n) m
       (λ k j. written-part (t .at) (t .count) k (omega arith) ∙ sym (written-part (t .at) n k (omega arith)))
-      (λ k j. rw (written-part (t .at) (t .count) k (omega arith)) (encode-whole (t .at k)))
-      (λ k j. whole-passes k (omega arith))
+      (whole-passes m (omega arith))
 
   front-sound : (n : ℕ) → n ≤ t .count → RecordsAnswer (written (t .at) n) (tested.Sound n)
   front-sound n h =

@@ -1,5 +1,9 @@
--- Pieces of text, small witnesses, what was found read again, and how long the texts can be.
+-- Pieces of text, what was found read again, how long the texts can be, and the text of an answer.
 pub mod Pieces
-pub mod Small
+pub mod Cycles
 pub mod Reading
 pub mod Lengths
+pub mod Answering
+pub mod Telling
+pub mod Unique
+pub mod Written

@@ -1,9 +1,9 @@
 -- Pieces of text, one after another: room for each, and what they make together.
 use mathlib.Core.Path.{_≡_, subst}
-use mathlib.Core.List.{List, [], _∷_, _++_}
-use Prim.Native.Nat.{ℕ, _+_, _≤_}
+use mathlib.Core.List.{List, _++_}
+use Prim.Native.Nat.{ℕ, _+_}
 use native.Mathlib.Omega.{arith}
-use lib.ListN.{length, length-append}
+use lib.ListN.{length-append}
 use Rattle.text.specs.Text.{Written}
 use Rattle.text.proofs.Laws.{written-length, written-then}
 use Rattle.lines.specs.Room.{Room}

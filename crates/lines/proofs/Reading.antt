@@ -1,21 +1,25 @@
 -- What was found and where its records stand, read again as the witness of a finding.
-use mathlib.Core.Path.{_≡_, refl, sym, ap, ap₂, subst}
+use mathlib.Core.Path.{_≡_, refl, sym, ap, ap₂, subst, _∙_}
+use mathlib.Core.Bool.{Bool, true, false, cond}
 use mathlib.Core.List.{List}
 use mathlib.Core.Option.{Option, some}
 use Prim.Native.Nat.{ℕ}
 use native.Mathlib.Omega.{arith}
 use lib.ListN.{length, drop, length-append}
 use lib.Seq.{take-at}
-use Rattle.laws.specs.Witness.{Witness, a-cycle}
+use Rattle.laws.specs.Least.{Least}
+use Rattle.laws.specs.Witness.{Witness, a-cycle, LeastWitness}
 use Rattle.findings.specs.declared.Finding.{Finding}
 use Rattle.findings.specs.declared.Finding.the-variants.{A1, A4}
 use Rattle.findings.specs.declared.Found.{Found}
 use Rattle.findings.specs.declared.Findings.{Findings}
-use Rattle.findings.specs.Family.{nameOf, foundOf}
+use Rattle.findings.specs.Family.{nameOf, inSecond, foundOf}
 use Rattle.findings.specs.Meant.{Means, record-of, pair-of, cycle-of, lent}
+use Rattle.model.specs.Table.{Table}
+use Rattle.model.specs.Findings.{Shows, Report, Reports}
 use Rattle.lines.specs.Lines.{line, witnessText, findingLine}
 use Rattle.lines.specs.Witnesses.{witnessIn, Whole, bufferOf, witnesses, AllWhole}
-use Rattle.lines.proofs.Small.{SmallPlain, a-number, two-numbers, SmallWitness, plain, in-first, in-second}
+use Rattle.lines.proofs.Cycles.{Stands, no-buffer-for-one, no-buffer-for-two, in-its-buffer, stands}
 
 -- one line, by what was found of the finding and the buffer of its cycle
 module _ (x : Findings) (first second : List ℕ) (f : Finding) {found : Found} {records : List ℕ} (is-found : found ≡ foundOf x f) (is-records : records ≡ bufferOf f first second) where
@@ -40,23 +44,38 @@ lent-gives before (cycle-of {len = len} {c = c} e) = record {
   whole = omega (arith, e, length-append c (drop (length c) before));
 }
 
--- one that is no cycle is given with any buffer
-plain-gives : {x : Found} {w : Option Witness} (records : List ℕ) → SmallPlain w → Means x w → Gives x records w
-plain-gives records SmallPlain.nothing Means.nothing = record { witness = refl; whole = tt }
-plain-gives records (a-number h) record-of = record { witness = refl; whole = tt }
-plain-gives records (two-numbers h k) pair-of = record { witness = refl; whole = tt }
-
 -- the witness of each finding, where the cycle of A1 stands in the first buffer and that of A4 in the second
-module _ (few : ℕ) (x : Findings) (witness : Finding → Option Witness) (before₁ before₂ : List ℕ) (means : (f : Finding) → Means (foundOf x f) (witness f)) (small : (f : Finding) → SmallWitness few f (witness f)) where
+module _ {t : Table} {x : Findings} {report : Report} (before₁ before₂ : List ℕ) (right : Reports t report) (means : (f : Finding) → Means (foundOf x f) (report .witness f)) where
+  abbrev first : List ℕ
+  first = lent (report .witness A1) before₁
+
+  abbrev second : List ℕ
+  second = lent (report .witness A4) before₂
+
+  its-buffer : (s : Bool) → cond s second first ≡ lent (report .witness (cond s A4 A1)) (cond s before₂ before₁)
+  its-buffer true = refl
+  its-buffer false = refl
+
+  -- the buffer of a cycle holds it
+  holds-it :
+      (f : Finding) {w : Option Witness} → w ≡ report .witness f → f ≡ cond (inSecond f) A4 A1 → bufferOf f first second ≡ lent w (bufferOf f before₁ before₂)
+  holds-it f e one =
+      its-buffer (inSecond f)
+      ∙ ap (λ (v : Option Witness). lent v (bufferOf f before₁ before₂)) (ap (report .witness) (sym one) ∙ sym e)
+
   one-gives :
-      (f : Finding) {w : Option Witness} → SmallWitness few f w → w ≡ witness f → Means (foundOf x f) w
-      → Gives (foundOf x f) (bufferOf f (lent (witness A1) before₁) (lent (witness A4) before₂)) w
-  one-gives f (plain s) e m = plain-gives (bufferOf f (lent (witness A1) before₁) (lent (witness A4) before₂)) s m
-  one-gives f {w} (in-first s) e m = subst (λ (v : Option Witness). Gives (x .«a1») (lent v before₁) w) e (lent-gives before₁ m)
-  one-gives f {w} (in-second s) e m = subst (λ (v : Option Witness). Gives (x .«a4») (lent v before₂) w) e (lent-gives before₂ m)
+      (f : Finding) {y : Found} {w : Option Witness} → LeastWitness (Shows t f) w → w ≡ report .witness f → Means y w → Gives y (bufferOf f first second) w
+  one-gives f (Least.absent _) e Means.nothing = record { witness = refl; whole = tt }
+  one-gives f (Least.least s _) e m = go (stands t f s) e m
+    where
+      go : {v : Witness} {y : Found} → Stands f v → some v ≡ report .witness f → Means y (some v) → Gives y (bufferOf f first second) (some v)
+      go no-buffer-for-one e record-of = record { witness = refl; whole = tt }
+      go no-buffer-for-two e pair-of = record { witness = refl; whole = tt }
+      go {v} {y} (in-its-buffer one) e m =
+          subst (λ (l : List ℕ). Gives y l (some v)) (sym (holds-it f e one)) (lent-gives (bufferOf f before₁ before₂) m)
 
-  pub witnesses-are : witnesses x (lent (witness A1) before₁) (lent (witness A4) before₂) ≡ witness
-  witnesses-are = λ i f. one-gives f (small f) refl (means f) .witness i
+  pub witnesses-are : witnesses x first second ≡ report .witness
+  witnesses-are = λ i f. one-gives f (right .least f) refl (means f) .witness i
 
-  pub all-whole : AllWhole x (lent (witness A1) before₁) (lent (witness A4) before₂)
-  all-whole = record { whole = λ f. one-gives f (small f) refl (means f) .whole }
+  pub all-whole : AllWhole x first second
+  all-whole = record { whole = λ f. one-gives f (right .least f) refl (means f) .whole }

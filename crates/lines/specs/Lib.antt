@@ -2,3 +2,4 @@
 pub mod Lines
 pub mod Room
 pub mod Witnesses
+pub mod Answer

@@ -1,15 +1,15 @@
 -- The witness of each finding as a judging leaves it: in what was found, and in the two buffers with the records of the cycles.
+use mathlib.Core.Bool.{cond}
 use mathlib.Core.List.{List}
 use mathlib.Core.Option.{Option, none, some}
 use Prim.Native.Nat.{ℕ, _≤_}
 use lib.ListN.{length, take}
 use Rattle.laws.specs.Witness.{Witness, a-record, a-pair, a-cycle}
 use Rattle.findings.specs.declared.Finding.{Finding}
-use Rattle.findings.specs.declared.Finding.the-variants.{R, A1, A2, A3, A4, W}
 use Rattle.findings.specs.declared.Found.{Found}
 use Rattle.findings.specs.declared.Found.the-variants.{Nothing, Record, Pair, Cycle}
 use Rattle.findings.specs.declared.Findings.{Findings}
-use Rattle.findings.specs.Family.{foundOf}
+use Rattle.findings.specs.Family.{inSecond, foundOf}
 
 -- the witness that was found, with the records of a cycle at the front of a buffer
 abbrev pub witnessIn : Found → List ℕ → Option Witness
@@ -25,14 +25,9 @@ Whole (Record n) records = Unit {0}
 Whole (Pair p q) records = Unit {0}
 Whole (Cycle len) records = len ≤ length records
 
--- "The two cycles go as one byte per record to two lent buffers": that of A4 to the second
+-- "The two cycles go as one byte per record to two lent buffers": the one of a finding's cycle
 abbrev pub bufferOf : Finding → List ℕ → List ℕ → List ℕ
-bufferOf R first second = first
-bufferOf A1 first second = first
-bufferOf A2 first second = first
-bufferOf A3 first second = first
-bufferOf A4 first second = second
-bufferOf W first second = first
+bufferOf f first second = cond (inSecond f) second first
 
 -- the witness of each finding
 abbrev pub witnesses : Findings → List ℕ → List ℕ → Finding → Option Witness

@@ -6,7 +6,7 @@ use text::put;
 use text::put_each;
 use text::put_spaced;
 ghost use mathlib.Core.Path.{_≡_};
-ghost use Prim.Native.Nat.{ℕ, _≤_};
+ghost use Prim.Native.Nat.{_≤_};
 ghost use lib.ListN.{take};
 ghost use Rattle.text.specs.Text.{Written};
 ghost use Rattle.findings.specs.Family.{inOrder, nameOf};
@@ -57,18 +57,14 @@ fn finding_line(out: &mut [u8], at: usize, finding: Finding, found: Found, recor
     put(out, rest, b"\n")
 }
 
-// Where the records of a finding's cycle stand: those of A4 in the second buffer.
+// Where the records of a finding's cycle stand.
 fn buffer_of<'a>(finding: Finding, first: &'a [u8], second: &'a [u8]) -> &'a [u8]
     ensures { λ r. ⌜ now r ≡ bufferOf finding (now (first .entry)) (now (second .entry)) ⌝ }
 {
-    match finding {
-        Finding::R => first,
-        Finding::A1 => first,
-        Finding::A2 => first,
-        Finding::A3 => first,
-        Finding::A4 => second,
-        Finding::W => first,
+    if finding.in_second() {
+        return second;
     }
+    first
 }
 
 // A line for each finding, in order; the records of the cycles stand at the front of `first` and `second`.

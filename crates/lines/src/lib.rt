@@ -2,16 +2,31 @@
 mod family;
 
 use crate::family::put_findings;
+use findings::Finding;
 use findings::Findings;
 use findings::Verdict;
+use judge::Judged;
+use limits::LIMIT;
+use refusals::Refusal;
 use refusals::Told;
 use text::put;
 use text::put_spaced;
-ghost use Prim.Native.Nat.{ℕ};
+ghost use Prim.Native.Nat.{_≤_};
+ghost use lib.ListN.{length};
 ghost use Rattle.text.specs.Text.{Written, spaced};
 ghost use Rattle.lines.specs.Lines.{line, verdictText, eventsWord, verdictWord, reportText, placeText, refusedText};
-ghost use Rattle.lines.specs.Room.{Room};
+ghost use Rattle.lines.specs.Room.{Room, longest};
 ghost use Rattle.lines.specs.Witnesses.{witnesses, AllWhole};
+ghost use Rattle.lines.specs.Answer.{TextAt, WriteAnswer};
+
+// Room for the longest text: `longest` of the definitions.
+pub const TEXT: usize = 32 + Finding::COUNT * (8 + 4 * LIMIT);
+
+// What writing an answer gives: how many bytes were written, or the refusal.
+pub enum Wrote {
+    Refused(Refusal),
+    Length(usize),
+}
 
 fn events_line(out: &mut [u8], at: usize, count: usize) -> usize
     requires { ⌜ Room (now out) at (line eventsWord (spaced count)) ⌝ }
@@ -68,4 +83,34 @@ fn put_refused(out: &mut [u8], told: Told) -> usize
     let word = put(out, 0, b"refused");
     let rest = put_place(out, word, told);
     put(out, rest, b"\n")
+}
+
+// The text of a table's answer at the front of `out`, and its length.
+fn put_answer(table: &[u8], out: &mut [u8]) -> usize
+    requires { ⌜ longest ≤ length (now out) ⌝ }
+    ensures { λ r. ⌜ TextAt (now (table .entry)) (now (out .exit)) r ⌝ }
+{
+    let mut first = [0u8; LIMIT];
+    let mut second = [0u8; LIMIT];
+    match judge::judge(table, &mut first, &mut second) {
+        Judged::Refused(r) => put_refused(out, r.told()),
+        Judged::Reported(x) => {
+            let found = x.findings;
+            let verdict = x.verdict;
+            put_report(out, x.events, found, verdict, &first, &second)
+        }
+    }
+}
+
+// Writes the answer of a judging as text: the report's lines, or the refusal's.
+pub fn write_answer(table: &[u8], out: &mut [u8]) -> Wrote
+    ensures { λ r. ⌜ WriteAnswer (now (table .entry)) (now (out .entry)) (now (out .exit)) r ⌝ }
+{
+    let mut text = [0u8; TEXT];
+    let len = put_answer(table, &mut text);
+    if out.len() < len {
+        return Wrote::Refused(Refusal::Room);
+    }
+    put(out, 0, &text[..len]);
+    Wrote::Length(len)
 }

@@ -5,7 +5,7 @@ use mathlib.Core.List.{List}
 use Prim.Native.Nat.{ℕ, _%_}
 use lib.Dec.{eqb}
 use Rattle.laws.specs.Says.{Says}
-use Rattle.laws.proofs.Says.{says-T, says-eq, says-le, says-not, says-and, says-if, says-iff}
+use Rattle.laws.proofs.Says.{says-yes, says-T, says-eq, says-le, says-not, says-and, says-if, says-iff}
 use Rattle.record.specs.Form.{byteAt, kindByte, orderByte, threadByte, sourceByte, locationByte, flagsByte, readsKind, writesKind, readU, writtenU, marked, inRow, rested, inRange, recordFrom, decidedBy, decode}
 use Rattle.record.specs.Refused.{Marked, InRow, Reads, Writes, ReadU, WrittenU, Rested, InRange, ReadAs, good, bad-2, bad-3, bad-4, bad-5}
 
@@ -38,7 +38,7 @@ module _ (b : List ℕ) where
   pub says-rested : Says (rested b) (Rested b)
   says-rested =
       says-iff
-      (λ (source, (location, ((flags, (read-bit, written-bit)), (nine, (read-low, (read-high, (written-low, (written-high, (fourteen, fifteen))))))))).
+      (λ (source, (location, ((flags, (read-bit, written-bit)), (nine, (read-low, (read-high, (written-low, (written-high, (fourteen, (fifteen, _)))))))))).
       record {
         source = source;
         location = location;
@@ -54,7 +54,7 @@ module _ (b : List ℕ) where
         fifteen = fifteen;
       })
       (λ r.
-      (r .source, (r .location, ((r .flags, (r .read-bit, r .written-bit)), (r .nine, (r .read-low, (r .read-high, (r .written-low, (r .written-high, (r .fourteen, r .fifteen))))))))))
+      (r .source, (r .location, ((r .flags, (r .read-bit, r .written-bit)), (r .nine, (r .read-low, (r .read-high, (r .written-low, (r .written-high, (r .fourteen, (r .fifteen, tt {0})))))))))))
       (says-and (says-unless reads (says-eq (sourceByte b) 255))
       (says-and (says-if (says-eq (kindByte b) 0) (zero-at 7))
       (says-and (says-and (says-le (flagsByte b) 3) (says-and (says-unless reads (says-not read-u)) (says-unless writes (says-not written-u))))
@@ -63,7 +63,7 @@ module _ (b : List ℕ) where
       (says-and (says-unless (says-and reads (says-not read-u)) (zero-at 11))
       (says-and (says-unless (says-and writes (says-not written-u)) (zero-at 12))
       (says-and (says-unless (says-and writes (says-not written-u)) (zero-at 13))
-      (says-and (zero-at 14) (zero-at 15))))))))))
+      (says-and (zero-at 14) (says-and (zero-at 15) (says-yes (tt {0}))))))))))))
 
   pub says-in-range : Says (inRange b) (InRange b)
   says-in-range =

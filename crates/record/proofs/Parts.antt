@@ -68,7 +68,3 @@ whole-part t n bytes h = record {
 pub encode-length : (r : Record) → length (encode r) ≡ 16
 unfolding encode
 encode-length r = refl
-
-pub encode-whole : (r : Record) → Whole (encode r)
-unfolding encode
-encode-whole r = record { long = encode-length r; low-read = omega arith; low-written = omega arith }

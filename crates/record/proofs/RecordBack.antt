@@ -28,7 +28,7 @@ order-back Rel = refl
 order-back Ar = refl
 order-back Sc = refl
 
-pub link-back : (l : Link) → ¬ (l ≡ To 255) → linkFrom (linkByte l) ≡ l
+link-back : (l : Link) → ¬ (l ≡ To 255) → linkFrom (linkByte l) ≡ l
 unfolding linkFrom
 link-back Absent h = refl
 link-back (To n) h = rw (ne-eqb n 255 (λ e. h (ap To e)))

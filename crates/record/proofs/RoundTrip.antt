@@ -36,12 +36,6 @@ passed b r e = go r (subst (ReadAs b) e (read-as b))
     go : (r : Record) → ReadAs b (Good r) → Passed b r
     go r (good m w s g) = record { marked = m; row = w; rested = s; in-range = g; same = refl }
 
--- a link that was read leads to no record 255, and only reads have a source
-pub record Proper (r : Record) : Type 0 where
-  pub parent : ¬ (r .parent ≡ To 255)
-  pub source : ¬ (r .source ≡ To 255)
-  pub only-reads : ¬ T (isRead (r .event)) → r .source ≡ Absent
-
 link-to : (x n : ℕ) → linkFrom x ≡ To n → (n ≡ x) × ¬ (n ≡ 255)
 unfolding linkFrom
 link-to x n e = go (eqb x 255) refl e
@@ -77,12 +71,8 @@ module _ (b : List ℕ) (row : InRow b) (rest : Rested b) where
   reads-kind =
       reads-by (orderFrom (orderByte b)) (locationByte b) (readFrom b) (writtenFrom b) (kindByte b) (kind-below (kindByte b) (orderByte b) row)
 
-  proper-from : Proper (recordFrom b)
-  proper-from = record {
-    parent = λ h. link-to _ _ h .1 refl;
-    source = λ h. link-to _ _ h .1 refl;
-    only-reads = λ n. absent (sourceByte b) (rest .source (λ k. n (rw reads-kind k)));
-  }
+  no-source : ¬ T (isRead (recordFrom b .event)) → recordFrom b .source ≡ Absent
+  no-source n = absent (sourceByte b) (rest .source (λ k. n (rw reads-kind k)))
 
   -- what holds of the columns that the bytes give holds of the event's
   of-columns :
@@ -102,7 +92,7 @@ module _ (b : List ℕ) (row : InRow b) (rest : Rested b) where
             (rw (rests (eqb k 0) (locationByte b) (λ t. rest .location (eqb→eq k 0 t))) (range .location));
         parent = link-below (parentByte b) (bytes .below 5);
         source = link-below (sourceByte b) (bytes .below 6);
-        only-reads = proper-from .only-reads;
+        only-reads = no-source;
         read =
             of-columns (λ c. numberOf (c .read) < 65536)
             (number-below (readsKind k) (readU f) (byteAt b 10) (byteAt b 11) (bytes .below 10) (bytes .below 11));
@@ -111,10 +101,11 @@ module _ (b : List ℕ) (row : InRow b) (rest : Rested b) where
             (number-below (writesKind k) (writtenU f) (byteAt b 12) (byteAt b 13) (bytes .below 12) (bytes .below 13));
       }
 
-pub proper : (b : List ℕ) (r : Record) → decode b ≡ Good r → Proper r
-proper b r e =
+-- and only reads have a source
+pub only-reads : (b : List ℕ) (r : Record) → decode b ≡ Good r → ¬ T (isRead (r .event)) → r .source ≡ Absent
+only-reads b r e =
     let q = passed b r e in
-    subst Proper (q .same) (proper-from b (q .row) (q .rested))
+    subst (λ (x : Record). ¬ T (isRead (x .event)) → x .source ≡ Absent) (q .same) (no-source b (q .row) (q .rested))
 
 -- a record that was read fits
 pub decode-fits : (b : List ℕ) (r : Record) → Bytes b → decode b ≡ Good r → Fits r

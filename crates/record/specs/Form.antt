@@ -1,7 +1,7 @@
 -- What the sixteen bytes of a record say, and the sixteen bytes that a record is written as.
 use mathlib.Core.Bool.{Bool, true, false, not, _&&_, _||_}
 use mathlib.Core.List.{List, [], _∷_, _++_}
-use Prim.Native.Nat.{ℕ, _+_, _*_, _/_, _%_}
+use Prim.Native.Nat.{ℕ, zero, suc, _+_, _*_, _/_, _%_}
 use lib.Dec.{eqb, leb}
 use lib.ListN.{getD, take, drop}
 use mathlib.Core.Option.{Option, none, some}
@@ -17,6 +17,8 @@ use Rattle.events.specs.declared.Record.{Record}
 use Rattle.events.specs.Words.{codeOf, orderOf, locationOf, readOf, writtenOf}
 use Rattle.refusals.specs.declared.Fault.the-variants.{Mark, Kind, Rest, Range}
 use Rattle.record.specs.declared.written.Columns.{Columns}
+use Rattle.record.specs.declared.rules.ByteTest.{ByteTest}
+use Rattle.record.specs.declared.rules.ByteTest.the-variants.{Fine, Faulty}
 use Rattle.record.specs.declared.Decoded.{Decoded}
 use Rattle.record.specs.declared.Decoded.the-variants.{Good, Bad}
 
@@ -25,6 +27,10 @@ pick true a b = a
 pick false a b = b
 
 -- ---- which byte holds what
+
+-- "The sixteen bytes of a record"
+abbrev pub recordSize : ℕ
+recordSize = 16
 
 abbrev pub byteAt : List ℕ → ℕ → ℕ
 byteAt b i = getD b i 0
@@ -88,21 +94,27 @@ abbrev pub flagsRest : ℕ → ℕ → Bool
 flagsRest k f = leb f 3 && ((readsKind k || not (readU f)) && (writesKind k || not (writtenU f)))
 
 -- "A field that a kind lacks holds 0 (source: 255; byte 8: no bit for it), and so does the number of a value that is u":
--- a part for each byte from 6 to 15
-abbrev pub restsBy : ℕ → ℕ → List ℕ → Bool
-restsBy k f b =
-    (readsKind k || eqb (sourceByte b) 255)
-    && ((not (eqb k 0) || eqb (locationByte b) 0)
-    && (flagsRest k f
-    && (eqb (byteAt b 9) 0
-    && (((readsKind k && not (readU f)) || eqb (byteAt b 10) 0)
-    && (((readsKind k && not (readU f)) || eqb (byteAt b 11) 0)
-    && (((writesKind k && not (writtenU f)) || eqb (byteAt b 12) 0)
-    && (((writesKind k && not (writtenU f)) || eqb (byteAt b 13) 0)
-    && (eqb (byteAt b 14) 0 && eqb (byteAt b 15) 0))))))))
+-- so does x, as byte i of a record of kind k with flags f
+abbrev pub restsAs : ℕ → ℕ → ℕ → ℕ → Bool
+restsAs k f i x =
+    pick (eqb i 6) (readsKind k || eqb x 255)
+    (pick (eqb i 7) (not (eqb k 0) || eqb x 0)
+    (pick (eqb i 8) (flagsRest k f)
+    (pick (eqb i 10 || eqb i 11) ((readsKind k && not (readU f)) || eqb x 0)
+    (pick (eqb i 12 || eqb i 13) ((writesKind k && not (writtenU f)) || eqb x 0)
+    (eqb x 0)))))
 
+abbrev pub restsAt : List ℕ → ℕ → Bool
+restsAt b i = restsAs (kindByte b) (flagsByte b) i (byteAt b i)
+
+-- n numbers from i on pass
+abbrev pub allFrom : (ℕ → Bool) → ℕ → ℕ → Bool
+allFrom f i zero = true
+allFrom f i (suc n) = f i && allFrom f (suc i) n
+
+-- the bytes 6 to 15
 abbrev pub rested : List ℕ → Bool
-rested b = restsBy (kindByte b) (flagsByte b) b
+rested b = allFrom (restsAt b) 6 10
 
 -- "thread, 0 to 15", "location, 0 to 31"
 abbrev pub inRange : List ℕ → Bool
@@ -147,6 +159,11 @@ decidedBy mark row rest range r = pick mark (pick row (pick rest (pick range (Go
 
 unfoldable pub decode : List ℕ → Decoded
 decode b = decidedBy (marked b) (inRow (kindByte b) (orderByte b)) (rested b) (inRange b) (recordFrom b)
+
+-- the record r unless a test was failed
+abbrev pub unlessFaulty : ByteTest → Record → Decoded
+unlessFaulty Fine r = Good r
+unlessFaulty (Faulty f) r = Bad f
 
 -- ---- the bytes of a record
 
@@ -216,8 +233,8 @@ encode r = bytesBy (r .thread) (r .parent) (r .source) (columnsOf (r .event))
 
 -- the sixteen bytes of record n
 abbrev pub part : List ℕ → ℕ → List ℕ
-part t n = take 16 (drop (16 * n) t)
+part t n = take recordSize (drop (recordSize * n) t)
 
 -- the table with these bytes as its record n, and every other byte as it was
 abbrev pub overwritten : List ℕ → ℕ → List ℕ → List ℕ
-overwritten t n bs = take (16 * n) t ++ (bs ++ drop 16 (drop (16 * n) t))
+overwritten t n bs = take (recordSize * n) t ++ (bs ++ drop recordSize (drop (recordSize * n) t))

@@ -2,7 +2,7 @@
 ghost use mathlib.Core.Path.{_≡_};
 ghost use Prim.Native.Nat.{_+_, _*_};
 ghost use lib.ListN.{length};
-ghost use Rattle.record.specs.Form.{orderFrom, linkFrom, valueFrom, eventFrom, recordFrom};
+ghost use Rattle.record.specs.Form.{recordSize, orderFrom, linkFrom, valueFrom, eventFrom, recordFrom};
 use crate::places::FLAGS;
 use crate::places::KIND;
 use crate::places::LOAD;
@@ -11,11 +11,14 @@ use crate::places::NONE;
 use crate::places::ORDER;
 use crate::places::PARENT;
 use crate::places::READ;
+use crate::places::READ_HIGH;
 use crate::places::SOURCE;
 use crate::places::STORE;
 use crate::places::THREAD;
 use crate::places::UPDATE;
 use crate::places::WRITTEN;
+use crate::places::WRITTEN_HIGH;
+use crate::rules;
 use events::Event;
 use events::Link;
 use events::Order;
@@ -34,7 +37,8 @@ fn order_from(code: u8) -> Order
     }
 }
 
-fn link_from(byte: u8) -> Link
+// The link that a byte is.
+pub fn link_from(byte: u8) -> Link
     ensures { λ r. ⌜ r ≡ linkFrom byte ⌝ }
 {
     if byte == NONE {
@@ -81,12 +85,15 @@ fn event_from(kind: u8, order: Order, location: u8, read: Value, written: Value)
 }
 
 pub fn record_from(b: &[u8]) -> Record
-    requires { ⌜ length (now b) ≡ 16 ⌝ }
+    requires { ⌜ length (now b) ≡ recordSize ⌝ }
     ensures { λ r. ⌜ r ≡ recordFrom (now (b .entry)) ⌝ }
 {
     let flags = b[FLAGS];
-    let read = value_from(flags % 2 == 1, word_of(b[READ], b[READ + 1]));
-    let written = value_from(2 <= flags, word_of(b[WRITTEN], b[WRITTEN + 1]));
+    let read = value_from(rules::read_u(flags), word_of(b[READ], b[READ_HIGH]));
+    let written = value_from(
+        rules::written_u(flags),
+        word_of(b[WRITTEN], b[WRITTEN_HIGH]),
+    );
     let event = event_from(b[KIND], order_from(b[ORDER]), b[LOCATION], read, written);
     Record {
         thread: b[THREAD],

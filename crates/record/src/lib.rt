@@ -7,13 +7,20 @@ mod written;
 ghost use mathlib.Core.Path.{_≡_};
 ghost use Prim.Native.Nat.{_+_, _*_, _≤_};
 ghost use lib.ListN.{length};
-ghost use Rattle.record.specs.Form.{decidedBy, decode, part, encode, overwritten};
+ghost use Rattle.record.specs.Form.{recordSize, decode, part, encode, overwritten};
 use events::Record;
-use places::KIND;
-use places::ORDER;
+pub use fields::link_from;
 use places::SIZE;
 use refusals::Fault;
+use rules::ByteTest;
 pub use written::bytes_of;
+
+// A byte that is the number of a record, as an index.
+pub fn wide(byte: u8) -> usize
+    ensures { λ r. ⌜ r ≡ byte ⌝ }
+{
+    byte as usize
+}
 
 // What sixteen bytes are: a record, or which of the refusals 2 to 5 they get.
 pub enum Decoded {
@@ -21,42 +28,20 @@ pub enum Decoded {
     Bad(Fault),
 }
 
-// The first test that fails is the answer.
-fn decided(mark: bool, row: bool, rest: bool, range: bool, r: Record) -> Decoded
-    ensures { λ d. ⌜ d ≡ decidedBy mark row rest range r ⌝ }
-{
-    if mark {
-        if row {
-            if rest {
-                if range {
-                    return Decoded::Good(r);
-                }
-                return Decoded::Bad(Fault::Range);
-            }
-            return Decoded::Bad(Fault::Rest);
-        }
-        return Decoded::Bad(Fault::Kind);
-    }
-    Decoded::Bad(Fault::Mark)
-}
-
 // The record that sixteen bytes are.
 pub fn read_part(b: &[u8]) -> Decoded
-    requires { ⌜ length (now b) ≡ 16 ⌝ }
+    requires { ⌜ length (now b) ≡ recordSize ⌝ }
     ensures { λ r. ⌜ r ≡ decode (now (b .entry)) ⌝ }
 {
-    decided(
-        rules::marked_at(b),
-        rules::in_row(b[KIND], b[ORDER]),
-        rules::rested_at(b),
-        rules::in_range(b),
-        fields::record_from(b),
-    )
+    match rules::first_fault(b) {
+        ByteTest::Fine => Decoded::Good(fields::record_from(b)),
+        ByteTest::Faulty(f) => Decoded::Bad(f),
+    }
 }
 
 // Record n of a table.
 pub fn read_at(table: &[u8], n: usize) -> Decoded
-    requires { ⌜ 16 * n + 16 ≤ length (now table) ⌝ }
+    requires { ⌜ recordSize * n + recordSize ≤ length (now table) ⌝ }
     ensures { λ r. ⌜ r ≡ decode (part (now (table .entry)) n) ⌝ }
 {
     let at = SIZE * n;
@@ -65,7 +50,7 @@ pub fn read_at(table: &[u8], n: usize) -> Decoded
 
 // Writes a record at its place, and changes no other byte.
 pub fn write_at(table: &mut [u8], n: usize, r: Record)
-    requires { ⌜ 16 * n + 16 ≤ length (now table) ⌝ }
+    requires { ⌜ recordSize * n + recordSize ≤ length (now table) ⌝ }
     ensures { λ _. ⌜ now (table .exit) ≡ overwritten (now (table .entry)) n (encode r) ⌝ }
 {
     let new = bytes_of(r);

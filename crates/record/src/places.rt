@@ -3,6 +3,11 @@
 // How many bytes a record is.
 pub const SIZE: usize = 16;
 
+// "mark 45 56 (hex)"
+pub const MARK: usize = 0;
+
+pub const MARK_SECOND: usize = 1;
+
 pub const KIND: usize = 2;
 
 pub const ORDER: usize = 3;
@@ -17,10 +22,14 @@ pub const LOCATION: usize = 7;
 
 pub const FLAGS: usize = 8;
 
-// The low bytes of the two values; the high bytes stand next to them.
+// The two values, low byte first.
 pub const READ: usize = 10;
 
+pub const READ_HIGH: usize = 11;
+
 pub const WRITTEN: usize = 12;
+
+pub const WRITTEN_HIGH: usize = 13;
 
 // The kinds.
 pub const INIT: u8 = 0;

@@ -1,19 +1,33 @@
 // The tests 2 to 5 on the sixteen bytes of a record. Each looks at its bytes from the least upward.
 ghost use mathlib.Core.Path.{_≡_};
 ghost use lib.ListN.{length};
-ghost use Rattle.record.specs.Form.{marked, inRow, rested, inRange};
+ghost use Rattle.record.specs.Form.{recordSize, readsKind, writesKind, readU, writtenU, marked, inRow, flagsRest, restsAs, inRange, recordFrom, decode, unlessFaulty};
+ghost use Rattle.record.specs.Refused.{FirstRestless};
 use crate::places::FLAGS;
 use crate::places::INIT;
 use crate::places::KIND;
 use crate::places::LOAD;
 use crate::places::LOCATION;
+use crate::places::MARK;
+use crate::places::MARK_SECOND;
 use crate::places::NONE;
+use crate::places::ORDER;
 use crate::places::READ;
+use crate::places::READ_HIGH;
+use crate::places::SIZE;
 use crate::places::SOURCE;
 use crate::places::STORE;
 use crate::places::THREAD;
 use crate::places::UPDATE;
 use crate::places::WRITTEN;
+use crate::places::WRITTEN_HIGH;
+use refusals::Fault;
+
+// What the tests 2 to 5 say.
+pub enum ByteTest {
+    Fine,
+    Faulty(Fault),
+}
 
 // "The kind and order table, one row for each kind": NA, ACQ, REL, AR, SC.
 const ALLOWED: [[u8; 5]; 4] = [
@@ -24,15 +38,15 @@ const ALLOWED: [[u8; 5]; 4] = [
 ];
 
 // Refusal 2 is not given.
-pub fn marked_at(b: &[u8]) -> bool
-    requires { ⌜ length (now b) ≡ 16 ⌝ }
+fn marked_at(b: &[u8]) -> bool
+    requires { ⌜ length (now b) ≡ recordSize ⌝ }
     ensures { λ r. ⌜ r ≡ marked (now (b .entry)) ⌝ }
 {
-    (b[0] == 0x45) & (b[1] == 0x56)
+    (b[MARK] == 0x45) & (b[MARK_SECOND] == 0x56)
 }
 
 // Refusal 3 is not given.
-pub fn in_row(kind: u8, order: u8) -> bool
+fn in_row(kind: u8, order: u8) -> bool
     ensures { λ r. ⌜ r ≡ inRow kind order ⌝ }
 {
     if 4 <= kind {
@@ -44,34 +58,92 @@ pub fn in_row(kind: u8, order: u8) -> bool
     ALLOWED[kind as usize][order as usize] == 1
 }
 
-// Refusal 4 is not given.
-pub fn rested_at(b: &[u8]) -> bool
-    requires { ⌜ length (now b) ≡ 16 ⌝ }
-    ensures { λ r. ⌜ r ≡ rested (now (b .entry)) ⌝ }
+fn reads(kind: u8) -> bool
+    ensures { λ r. ⌜ r ≡ readsKind kind ⌝ }
 {
-    let kind = b[KIND];
-    let flags = b[FLAGS];
-    let reads = (kind == LOAD) | (kind == UPDATE);
-    let writes = (kind == STORE) | (kind == UPDATE);
-    let read_u = flags % 2 == 1;
-    let written_u = 2 <= flags;
-    let reads_number = reads & !read_u;
-    let writes_number = writes & !written_u;
-    (reads | (b[SOURCE] == NONE))
-        & ((!(kind == INIT) | (b[LOCATION] == 0))
-            & (((flags <= 3) & ((reads | !read_u) & (writes | !written_u)))
-                & ((b[9] == 0)
-                    & ((reads_number | (b[READ] == 0))
-                        & ((reads_number | (b[READ + 1] == 0))
-                            & ((writes_number | (b[WRITTEN] == 0))
-                                & ((writes_number | (b[WRITTEN + 1] == 0))
-                                    & ((b[14] == 0) & (b[15] == 0)))))))))
+    (kind == LOAD) | (kind == UPDATE)
+}
+
+fn writes(kind: u8) -> bool
+    ensures { λ r. ⌜ r ≡ writesKind kind ⌝ }
+{
+    (kind == STORE) | (kind == UPDATE)
+}
+
+// "1 if the value read is u, plus 2 if the value written is u"
+pub fn read_u(flags: u8) -> bool
+    ensures { λ r. ⌜ r ≡ readU flags ⌝ }
+{
+    flags % 2 == 1
+}
+
+pub fn written_u(flags: u8) -> bool
+    ensures { λ r. ⌜ r ≡ writtenU flags ⌝ }
+{
+    2 <= flags
+}
+
+fn flags_rest(kind: u8, flags: u8) -> bool
+    ensures { λ r. ⌜ r ≡ flagsRest kind flags ⌝ }
+{
+    (flags <= 3) & ((reads(kind) | !read_u(flags)) & (writes(kind) | !written_u(flags)))
+}
+
+// Byte i of a record of this kind with these flags holds what it should where it rests.
+fn rests(kind: u8, flags: u8, i: usize, byte: u8) -> bool
+    ensures { λ r. ⌜ r ≡ restsAs kind flags i byte ⌝ }
+{
+    let reads_number = reads(kind) & !read_u(flags);
+    let writes_number = writes(kind) & !written_u(flags);
+    match i {
+        SOURCE => reads(kind) | (byte == NONE),
+        LOCATION => !(kind == INIT) | (byte == 0),
+        FLAGS => flags_rest(kind, flags),
+        READ => reads_number | (byte == 0),
+        READ_HIGH => reads_number | (byte == 0),
+        WRITTEN => writes_number | (byte == 0),
+        WRITTEN_HIGH => writes_number | (byte == 0),
+        _ => byte == 0,
+    }
+}
+
+// The least byte, from the source on, that does not rest and should; the size of a record if there is none.
+fn least_restless(b: &[u8]) -> usize
+    requires { ⌜ length (now b) ≡ recordSize ⌝ }
+    ensures { λ r. ⌜ FirstRestless (now (b .entry)) r ⌝ }
+{
+    for i in SOURCE..SIZE {
+        if !rests(b[KIND], b[FLAGS], i, b[i]) {
+            return i;
+        }
+    }
+    SIZE
 }
 
 // Refusal 5 is not given.
-pub fn in_range(b: &[u8]) -> bool
-    requires { ⌜ length (now b) ≡ 16 ⌝ }
+fn in_range(b: &[u8]) -> bool
+    requires { ⌜ length (now b) ≡ recordSize ⌝ }
     ensures { λ r. ⌜ r ≡ inRange (now (b .entry)) ⌝ }
 {
     (b[THREAD] <= 15) & (b[LOCATION] <= 31)
+}
+
+// "numbers 2 to 8 in order within one; the first fault is the answer": 2 to 5.
+pub fn first_fault(b: &[u8]) -> ByteTest
+    requires { ⌜ length (now b) ≡ recordSize ⌝ }
+    ensures { λ r. ⌜ decode (now (b .entry)) ≡ unlessFaulty r (recordFrom (now (b .entry))) ⌝ }
+{
+    if !marked_at(b) {
+        return ByteTest::Faulty(Fault::Mark);
+    }
+    if !in_row(b[KIND], b[ORDER]) {
+        return ByteTest::Faulty(Fault::Kind);
+    }
+    if least_restless(b) < SIZE {
+        return ByteTest::Faulty(Fault::Rest);
+    }
+    if !in_range(b) {
+        return ByteTest::Faulty(Fault::Range);
+    }
+    ByteTest::Fine
 }

@@ -5,6 +5,7 @@ ghost use Rattle.record.specs.Form.{columnsOf, linkByte, numberOf, flags
 use crate::places::INIT;
 use crate::places::LOAD;
 use crate::places::NONE;
+use crate::places::SIZE;
 use crate::places::STORE;
 use crate::places::UPDATE;
 use events::Event;
@@ -115,7 +116,7 @@ fn high(n: u16) -> u8
     (n / 256) as u8
 }
 
-pub fn bytes_of(r: Record) -> [u8; 16]
+pub fn bytes_of(r: Record) -> [u8; SIZE]
     ensures { λ a. ⌜ a ≡ encode r ⌝ }
 {
     let parent = r.parent;

@@ -8,15 +8,15 @@ use lib.ListN.{length, take}
 use lib.Seq.{length-take-le, take-all}
 use Rattle.laws.specs.Says.{Says}
 use Rattle.laws.proofs.Says.{says-iff, says-eq, says-le, says-not, says-and}
-use Rattle.record.specs.Form.{part}
-use Rattle.record.specs.Fits.{Bytes}
-use Rattle.record.proofs.Parts.{part-take, bytes-take, whole-part}
-use Rattle.table.specs.Events.{countOf}
+use Rattle.record.specs.Form.{decode, part}
+use Rattle.record.proofs.Parts.{part-take}
+use Rattle.table.specs.Events.{countOf, eventsOf}
 use Rattle.limits.specs.Limit.{limit}
 use Rattle.table.specs.declared.Tested.{Tested}
 use Rattle.table.specs.Test.{lengthOk, Passes, CheckAnswer, RecordsAnswer, TestAnswer, records}
-use Rattle.table.specs.Computed.{checkedPart}
-use Rattle.table.proofs.Exact.{check-exact}
+use Rattle.table.specs.Computed.{checked}
+use Rattle.table.specs.Part.{AllStand}
+use Rattle.table.proofs.Exact.{decodes-alike, check-exact}
 
 module _ (b : List ℕ) (count : ℕ) (held : 16 * count ≤ length b) where
   front-length : length (take (16 * count) b) ≡ 16 * count
@@ -30,15 +30,14 @@ module _ (b : List ℕ) (count : ℕ) (held : 16 * count ≤ length b) where
   pub front-part : (n : ℕ) → n < count → part b n ≡ part (take (16 * count) b) n
   front-part n h = sym (part-take b (16 * count) n (omega arith) held)
 
-  pub front-exact :
-      Bytes b → (n : ℕ) → n < count → ((m : ℕ) → m < n → Passes (take (16 * count) b) m) → CheckAnswer (take (16 * count) b) n (checkedPart b n (part b n))
-  front-exact bytes n h passed =
-      let long = front-length in
-      rw (front-part n h)
-      (check-exact b (take (16 * count) b) n
-      (λ m l. front-part m (omega arith))
-      (λ m l. whole-part (take (16 * count) b) m (bytes-take b (16 * count) bytes) (omega arith))
-      (λ m l. passed m l .decodes))
+  pub front-exact : (n : ℕ) → n < count → CheckAnswer (take (16 * count) b) n (checked (eventsOf b .at) n (decode (part b n)))
+  front-exact n h =
+      rw (front-part n h) (check-exact b (take (16 * count) b) n (λ m l. front-part m (omega arith)))
+
+  -- records that pass as a table of their own stand in b
+  pub front-stands : (n : ℕ) → n ≤ count → ((m : ℕ) → m < n → Passes (take (16 * count) b) m) → AllStand b n
+  front-stands n h passed =
+      record { held = omega (arith, held); decodes = λ m l. decodes-alike (sym (front-part m (omega arith))) (passed m l .decodes) }
 
 -- ---- a table of a right length is the front of itself
 

@@ -1,9 +1,9 @@
 -- What is proved of a table as bytes.
 pub mod Search
-pub mod Bytewise
-pub mod Pairwise
+pub mod Telling
 pub mod Unique
 pub mod Exact
+pub mod Standing
 pub mod Front
 pub mod WellFormed
 pub mod Written

@@ -6,7 +6,7 @@ use native.Mathlib.Omega.{arith}
 use lib.Dec.{T}
 use lib.ListN.{length}
 use Rattle.record.specs.Form.{decidedBy, decode, part}
-use Rattle.record.proofs.RoundTrip.{proper}
+use Rattle.record.proofs.RoundTrip.{only-reads}
 use Rattle.record.proofs.Parts.{part-past}
 use Rattle.model.specs.Table.{Ends, inert}
 use Rattle.model.specs.WellFormed.{WellFormed, Sound}
@@ -42,7 +42,7 @@ sound-at b n p = record {
   not-6 = p .not-6;
   not-7 = p .not-7;
   not-8 = p .not-8;
-  only-reads = proper (part b n) (eventsOf b .at n) (decoded-at b n (p .decodes)) .only-reads;
+  only-reads = only-reads (part b n) (eventsOf b .at n) (decoded-at b n (p .decodes));
 }
 
 pub passes-well-formed :

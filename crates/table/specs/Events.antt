@@ -5,12 +5,12 @@ use lib.ListN.{length}
 use Rattle.events.specs.declared.Record.{Record}
 use Rattle.record.specs.declared.Decoded.{Decoded}
 use Rattle.record.specs.declared.Decoded.the-variants.{Good, Bad}
-use Rattle.record.specs.Form.{decode, encode, part}
+use Rattle.record.specs.Form.{recordSize, decode, encode, part}
 use Rattle.model.specs.Table.{Table, inert}
 
 -- how many records so many bytes are
 abbrev pub countOf : List ℕ → ℕ
-countOf b = length b / 16
+countOf b = length b / recordSize
 
 abbrev pub recordOf : Decoded → Record
 recordOf (Good r) = r

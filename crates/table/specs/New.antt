@@ -1,16 +1,11 @@
--- The test of a record that is to stand after the first n records of a table: what an append asks.
-use mathlib.Core.Path.{_≡_}
-use mathlib.Core.List.{List, _++_}
-use Prim.Native.Nat.{ℕ, _*_, _<_}
-use lib.ListN.{take}
-use Rattle.events.specs.declared.Record.{Record}
-use Rattle.record.specs.Form.{encode}
-use Rattle.table.specs.declared.Checked.{Checked}
-use Rattle.table.specs.Test.{Passes, CheckAnswer}
-use Rattle.table.specs.Computed.{checkedNew}
+-- The records in use that a record is to stand after: what an append knows of them.
+use mathlib.Core.List.{List}
+use Prim.Native.Nat.{ℕ, _*_, _<_, _≤_}
+use lib.ListN.{length, take}
+use Rattle.record.specs.Form.{recordSize}
+use Rattle.table.specs.Test.{Passes}
 
-pub record NewAnswer (b : List ℕ) (n : ℕ) (r : Record) (c : Checked) : Type 0 where
-  -- one answer only, whatever the records in use are
-  pub decided : c ≡ checkedNew b n r
-  -- where they pass: "the new event .. at the next number, as if its bytes were read"
-  pub exact : ((m : ℕ) → m < n → Passes (take (16 * n) b) m) → CheckAnswer (take (16 * n) b ++ encode r) n c
+-- b holds n records, and as a table of their own they pass
+pub record PassingUse (b : List ℕ) (n : ℕ) : Type 0 where
+  pub held : recordSize * n ≤ length b
+  pub passed : (m : ℕ) → m < n → Passes (take (recordSize * n) b) m

@@ -13,7 +13,7 @@ use Rattle.refusals.specs.declared.Told.{Told}
 use Rattle.refusals.specs.Numbers.{at, faultNumber, told}
 use Rattle.limits.specs.Limit.{limit}
 use Rattle.record.specs.declared.Decoded.the-variants.{Good, Bad}
-use Rattle.record.specs.Form.{decode, part}
+use Rattle.record.specs.Form.{recordSize, decode, part}
 use Rattle.model.specs.WellFormed.{Refused6, Refused7, Refused8}
 use Rattle.table.specs.declared.Checked.{Checked}
 use Rattle.table.specs.declared.Checked.the-variants as checked
@@ -23,7 +23,7 @@ use Rattle.table.specs.Events.{countOf, eventsOf}
 
 -- not 1: "length 0, not a multiple of 16, or above 1,024"
 abbrev pub lengthOk : ℕ → Bool
-lengthOk len = not (eqb len 0) && (eqb (len % 16) 0 && leb len (16 * limit))
+lengthOk len = not (eqb len 0) && (eqb (len % recordSize) 0 && leb len (recordSize * limit))
 
 module _ (b : List ℕ) where
   -- the sixteen bytes of record n pass 2 to 5

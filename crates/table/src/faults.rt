@@ -1,64 +1,37 @@
-// Tests 6 to 8 of a record's sixteen bytes, to stand as record n, against the n records before it.
+// Tests 6 to 8 of a record, to stand as record n, against the n records before it.
 ghost use mathlib.Core.Path.{_≡_};
-ghost use Prim.Native.Nat.{_+_, _*_, _≤_};
-ghost use lib.ListN.{length};
-ghost use Rattle.record.specs.Form.{part, threadByte};
-ghost use Rattle.table.specs.Computed.{earlier, rooted, stood, parentFault, sourceFault, twinFault};
-ghost use Rattle.table.specs.Part.{Part, Against};
-use crate::pairs;
-use record::places::FLAGS;
-use record::places::INIT;
-use record::places::KIND;
-use record::places::LOAD;
-use record::places::NONE;
-use record::places::PARENT;
-use record::places::SIZE;
-use record::places::SOURCE;
-use record::places::THREAD;
-use record::places::UPDATE;
-
-// The sixteen bytes of record n.
-pub fn part_at(table: &[u8], n: usize) -> &[u8]
-    requires { ⌜ 16 * n + 16 ≤ length (now table) ⌝ }
-    ensures { λ r. ⌜ Part (now (table .entry)) n (now r) ⌝ }
-{
-    let at = SIZE * n;
-    &table[at..at + SIZE]
-}
-
-fn wide(x: u8) -> usize
-    ensures { λ r. ⌜ r ≡ x ⌝ }
-{
-    x as usize
-}
-
-// The link leads to an earlier record.
-fn is_earlier(link: u8, n: usize) -> bool
-    ensures { λ r. ⌜ r ≡ earlier link n ⌝ }
-{
-    !(link == NONE) & ((link as usize) < n)
-}
+ghost use Rattle.table.specs.Computed.{rooted, stood, misplaced, parentFault, unfit, sourceFault, twinned, twinFault};
+ghost use Rattle.table.specs.Events.{eventsOf};
+ghost use Rattle.table.specs.Part.{Stands, AllStand};
+use crate::accesses::Access;
+use crate::accesses::branches;
+use crate::accesses::is_init;
+use crate::accesses::is_u;
+use crate::accesses::read_by;
+use crate::accesses::same_link;
+use crate::accesses::suits;
+use crate::accesses::written_by;
+use crate::stored::parent_at;
+use crate::stored::record_at;
+use crate::stored::thread_at;
+use events::Link;
+use events::Record;
+use events::Value;
+use record::wide;
 
 // "an Init of thread 0 without parent"
-fn is_root(new: &[u8]) -> bool
-    requires { ⌜ length (now new) ≡ 16 ⌝ }
-    ensures { λ r. ⌜ r ≡ rooted (now (new .entry)) ⌝ }
+fn is_root(new: Record) -> bool
+    ensures { λ r. ⌜ r ≡ rooted new ⌝ }
 {
-    (new[KIND] == INIT) & ((new[THREAD] == 0) & (new[PARENT] == NONE))
-}
-
-fn thread_at(table: &[u8], n: usize) -> u8
-    requires { ⌜ 16 * n + 16 ≤ length (now table) ⌝ }
-    ensures { λ r. ⌜ r ≡ threadByte (part (now (table .entry)) n) ⌝ }
-{
-    let r = part_at(table, n);
-    r[THREAD]
+    let event = new.event;
+    let parent = new.parent;
+    is_init(event) & ((new.thread == 0) & same_link(parent, Link::Absent))
 }
 
 // "an Init's thread has stood in an earlier record"
 fn thread_stood(table: &[u8], n: usize, thread: u8) -> bool
-    requires { ⌜ 16 * n ≤ length (now table) ⌝ }
-    ensures { λ r. ⌜ r ≡ stood (now (table .entry)) n thread ⌝ }
+    requires { ⌜ AllStand (now table) n ⌝ }
+    ensures { λ r. ⌜ r ≡ stood (eventsOf (now (table .entry)) .at) n thread ⌝ }
 {
     let mut found = false;
     for m in 0..n {
@@ -67,52 +40,88 @@ fn thread_stood(table: &[u8], n: usize, thread: u8) -> bool
     found
 }
 
+// With the parent p: "one not earlier", "a non-Init has another thread than its parent", or an Init's thread has stood.
+fn is_misplaced(table: &[u8], n: usize, p: usize, new: Record) -> bool
+    requires { ⌜ AllStand (now table) n ⌝ }
+    ensures { λ r. ⌜ r ≡ misplaced (eventsOf (now (table .entry)) .at) n p new ⌝ }
+{
+    if p < n {
+        let event = new.event;
+        if is_init(event) {
+            return thread_stood(table, n, new.thread);
+        }
+        return !(thread_at(table, p) == new.thread);
+    }
+    true
+}
+
 // Refusal 6.
-pub fn parent_fault(table: &[u8], n: usize, new: &[u8]) -> bool
-    requires { ⌜ Against (now table) n (now new) ⌝ }
-    ensures { λ r. ⌜ r ≡ parentFault (now (table .entry)) n (now (new .entry)) ⌝ }
+pub fn parent_fault(table: &[u8], n: usize, new: Record) -> bool
+    requires { ⌜ AllStand (now table) n ⌝ }
+    ensures { λ r. ⌜ r ≡ parentFault (eventsOf (now (table .entry)) .at) n new ⌝ }
 {
     if n == 0 {
         return !is_root(new);
     }
-    let parent = new[PARENT];
-    if is_earlier(parent, n) {
-        if new[KIND] == INIT {
-            return thread_stood(table, n, new[THREAD]);
-        }
-        return !(thread_at(table, wide(parent)) == new[THREAD]);
+    let parent = new.parent;
+    match parent {
+        Link::Absent => true,
+        Link::To(p) => is_misplaced(table, n, wide(p), new),
+    }
+}
+
+// Record s is no earlier write of this location, or what it wrote is not what was read.
+fn is_unfit(table: &[u8], n: usize, s: usize, location: u8, read: Value) -> bool
+    requires { ⌜ AllStand (now table) n ⌝ }
+    ensures { λ r. ⌜ r ≡ unfit (eventsOf (now (table .entry)) .at) n s location read ⌝ }
+{
+    if s < n {
+        let source = record_at(table, s);
+        let event = source.event;
+        return !suits(written_by(event), location, read);
     }
     true
 }
 
 // Refusal 7.
-pub fn source_fault(table: &[u8], n: usize, new: &[u8]) -> bool
-    requires { ⌜ Against (now table) n (now new) ⌝ }
-    ensures { λ r. ⌜ r ≡ sourceFault (now (table .entry)) n (now (new .entry)) ⌝ }
+pub fn source_fault(table: &[u8], n: usize, new: Record) -> bool
+    requires { ⌜ AllStand (now table) n ⌝ }
+    ensures { λ r. ⌜ r ≡ sourceFault (eventsOf (now (table .entry)) .at) n new ⌝ }
 {
-    let kind = new[KIND];
-    if (kind == LOAD) | (kind == UPDATE) {
-        let source = new[SOURCE];
-        if source == NONE {
-            return !(new[FLAGS] % 2 == 1);
-        }
-        let s = wide(source);
-        if s < n {
-            return !pairs::suits(part_at(table, s), new);
-        }
-        return true;
+    let event = new.event;
+    let source = new.source;
+    match read_by(event) {
+        Access::Nothing => false,
+        Access::At { location, value } => match source {
+            Link::Absent => !is_u(value),
+            Link::To(s) => is_unfit(table, n, wide(s), location, value),
+        },
+    }
+}
+
+// Record m "has the same parent and thread, and the two are not both reads of one location with different read values".
+fn is_twin(table: &[u8], m: usize, new: Record) -> bool
+    requires { ⌜ Stands (now table) m ⌝ }
+    ensures { λ r. ⌜ r ≡ twinned (eventsOf (now (table .entry)) .at m) new ⌝ }
+{
+    let parent = new.parent;
+    if same_link(parent_at(table, m), parent) & (thread_at(table, m) == new.thread) {
+        let other = record_at(table, m);
+        let a = other.event;
+        let b = new.event;
+        return !branches(read_by(a), read_by(b));
     }
     false
 }
 
 // Refusal 8.
-pub fn twin_fault(table: &[u8], n: usize, new: &[u8]) -> bool
-    requires { ⌜ Against (now table) n (now new) ⌝ }
-    ensures { λ r. ⌜ r ≡ twinFault (now (table .entry)) n (now (new .entry)) ⌝ }
+pub fn twin_fault(table: &[u8], n: usize, new: Record) -> bool
+    requires { ⌜ AllStand (now table) n ⌝ }
+    ensures { λ r. ⌜ r ≡ twinFault (eventsOf (now (table .entry)) .at) n new ⌝ }
 {
     let mut found = false;
     for m in 0..n {
-        found = found | pairs::twins(part_at(table, m), new);
+        found = found | is_twin(table, m, new);
     }
     found
 }

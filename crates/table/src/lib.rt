@@ -1,25 +1,27 @@
 // A table of records as bytes: its test (refusals 1 to 8, each with its place), its records, fetched and read.
+mod accesses;
 mod faults;
-mod pairs;
+mod stored;
 
 ghost use mathlib.Core.Path.{_≡_};
-ghost use Prim.Native.Nat.{_+_, _*_, _/_, _≤_};
+ghost use mathlib.Core.List.{_++_};
+ghost use Prim.Native.Nat.{_*_, _/_, _≤_};
 ghost use lib.ListN.{length, take};
-ghost use Rattle.record.specs.Form.{part};
-ghost use Rattle.table.specs.Computed.{judged, checkedPart};
-ghost use Rattle.table.specs.Events.{recordOf, eventsOf};
+ghost use Rattle.record.specs.declared.Decoded.the-variants.{Good};
+ghost use Rattle.record.specs.Form.{recordSize, encode};
+ghost use Rattle.table.specs.Computed.{checked};
+ghost use Rattle.table.specs.Events.{eventsOf};
 ghost use Rattle.table.specs.Fetched.{fetched, FetchAnswer};
-ghost use Rattle.table.specs.New.{NewAnswer};
-ghost use Rattle.table.specs.Part.{Against};
-ghost use Rattle.table.specs.Test.{lengthOk, RecordsAnswer, TestAnswer};
-use events::Event;
-use events::Link;
+ghost use Rattle.table.specs.New.{PassingUse};
+ghost use Rattle.table.specs.Part.{AllStand};
+ghost use Rattle.table.specs.Test.{lengthOk, CheckAnswer, RecordsAnswer, TestAnswer};
 use events::Record;
 use limits::LIMIT;
 use record::Decoded;
 use record::places::SIZE;
 use refusals::Fault;
 use refusals::Refusal;
+pub use stored::record_at;
 
 // What the test of one record says.
 pub enum Checked {
@@ -39,60 +41,50 @@ pub enum FetchTest {
     Refused(Refusal),
 }
 
-// The first fault is the answer.
-fn judged_by(parent: bool, source: bool, twin: bool) -> Checked
-    ensures { λ r. ⌜ r ≡ judged parent source twin ⌝ }
+// Tests 6 to 8, "in order within one; the first fault is the answer".
+fn check_event(table: &[u8], n: usize, new: Record) -> Checked
+    requires { ⌜ AllStand (now table) n ⌝ }
+    ensures { λ r. ⌜ r ≡ checked (eventsOf (now (table .entry)) .at) n (Good new) ⌝ }
 {
-    if parent {
+    if faults::parent_fault(table, n, new) {
         return Checked::Faulty(Fault::Parent);
     }
-    if source {
+    if faults::source_fault(table, n, new) {
         return Checked::Faulty(Fault::Source);
     }
-    if twin {
+    if faults::twin_fault(table, n, new) {
         return Checked::Faulty(Fault::Twin);
     }
     Checked::Fine
 }
 
-// The test of sixteen bytes as record n.
-fn check_part(table: &[u8], n: usize, new: &[u8]) -> Checked
-    requires { ⌜ Against (now table) n (now new) ⌝ }
-    ensures { λ r. ⌜ r ≡ checkedPart (now (table .entry)) n (now (new .entry)) ⌝ }
+// The test of what was read as record n.
+fn check_decoded(table: &[u8], n: usize, d: Decoded) -> Checked
+    requires { ⌜ AllStand (now table) n ⌝ }
+    ensures { λ r. ⌜ r ≡ checked (eventsOf (now (table .entry)) .at) n d ⌝ }
 {
-    match record::read_part(new) {
-        Decoded::Good(_) => judged_by(
-            faults::parent_fault(table, n, new),
-            faults::source_fault(table, n, new),
-            faults::twin_fault(table, n, new),
-        ),
+    match d {
+        Decoded::Good(r) => check_event(table, n, r),
         Decoded::Bad(f) => Checked::Faulty(f),
     }
 }
 
-fn check_record(table: &[u8], n: usize) -> Checked
-    requires { ⌜ 16 * n + 16 ≤ length (now table) ⌝ }
-    ensures { λ r. ⌜ r ≡ checkedPart (now (table .entry)) n (part (now (table .entry)) n) ⌝ }
-{
-    check_part(table, n, faults::part_at(table, n))
-}
-
 // The test of a record that is to stand after the first n, "as if its bytes were read".
 pub fn check_new(table: &[u8], n: usize, r: Record) -> Checked
-    requires { ⌜ 16 * n ≤ length (now table) ⌝ }
-    ensures { λ c. ⌜ NewAnswer (now (table .entry)) n r c ⌝ }
+    requires { ⌜ PassingUse (now table) n ⌝ }
+    ensures { λ c. ⌜ CheckAnswer (take (recordSize * n) (now (table .entry)) ++ encode r) n c ⌝ }
 {
     let new = record::bytes_of(r);
-    check_part(table, n, &new)
+    check_decoded(table, n, record::read_part(&new))
 }
 
 // The test of the first `count` records.
 pub fn test_records(table: &[u8], count: usize) -> Tested
-    requires { ⌜ 16 * count ≤ length (now table) ⌝ }
-    ensures { λ r. ⌜ RecordsAnswer (take (16 * count) (now (table .entry))) r ⌝ }
+    requires { ⌜ recordSize * count ≤ length (now table) ⌝ }
+    ensures { λ r. ⌜ RecordsAnswer (take (recordSize * count) (now (table .entry))) r ⌝ }
 {
     for n in 0..count {
-        match check_record(table, n) {
+        match check_decoded(table, n, record::read_at(table, n)) {
             Checked::Fine => {}
             Checked::Faulty(f) => {
                 return Tested::Refused(Refusal::Record(f, n));
@@ -121,28 +113,6 @@ pub fn test(table: &[u8]) -> Tested
     }
 }
 
-fn record_of(d: Decoded) -> Record
-    ensures { λ r. ⌜ r ≡ recordOf d ⌝ }
-{
-    match d {
-        Decoded::Good(r) => r,
-        Decoded::Bad(_) => Record {
-            thread: 0,
-            parent: Link::Absent,
-            source: Link::Absent,
-            event: Event::Init,
-        },
-    }
-}
-
-// Record n.
-pub fn record_at(table: &[u8], n: usize) -> Record
-    requires { ⌜ 16 * n + 16 ≤ length (now table) ⌝ }
-    ensures { λ r. ⌜ r ≡ eventsOf (now (table .entry)) .at n ⌝ }
-{
-    record_of(record::read_at(table, n))
-}
-
 // Whether a fetch of record n is refused, by 1 or by 13.
 pub fn refusal_of_fetch(table: &[u8], n: usize) -> FetchTest
     ensures { λ r. ⌜ FetchAnswer (now (table .entry)) n r ⌝ }
@@ -162,7 +132,7 @@ pub fn fetch(table: &[u8], n: usize) -> &[u8]
     ensures { λ r. ⌜ now r ≡ fetched (now (table .entry)) n ⌝ }
 {
     match refusal_of_fetch(table, n) {
-        FetchTest::Given => faults::part_at(table, n),
+        FetchTest::Given => stored::part_at(table, n),
         FetchTest::Refused(_) => &table[..0],
     }
 }

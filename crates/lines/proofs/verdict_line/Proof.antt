@@ -50,4 +50,5 @@ returns-3 c =
 pub verdict-line-spec : {M : Type 1} → statement M
 verdict-line-spec =
     tie.close
-    (tie.spec (search needs) (search needs) put-requires (search needs) (search needs) put-requires-2 (search needs) (search needs) put-requires-3 (search needs) returns (search needs) returns-2 (search needs) returns-3)
+    (tie.spec (search needs) (search needs) put-requires (search needs) (search needs) put-requires-2 (search needs) (search needs) put-requires-3
+    (search needs) returns (search needs) returns-2 (search needs) returns-3)

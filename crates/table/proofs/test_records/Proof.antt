@@ -1,16 +1,17 @@
 -- `table::test_records` meets its contract: every record below n passes, in the table of the first `count` records.
-use mathlib.Core.Path.{sym, subst}
+use mathlib.Core.Path.{sym, subst, ap, _∙_}
 use Prim.Native.Nat.{ℕ, _*_, _-_, _<_, _≤_}
 use native.Mathlib.Omega.{arith}
 use lib.ListN.{take}
 use borrow.Author.Count.{below-more}
 use borrow.Author.Needs.{needs}
 use denote.Ref.{now}
-use Rattle.record.specs.Fits.{Bytes}
 use Rattle.table.specs.declared.Tested.the-variants.{Sound}
+use Rattle.table.specs.Computed.{checked}
+use Rattle.table.specs.Events.{eventsOf}
 use Rattle.table.specs.Test.{Passes, CheckAnswer, first-fault, RecordsAnswer, refused, sound}
 use Rattle.table.proofs.Exact.{passes-of, fault-of}
-use Rattle.table.proofs.Front.{front-count, front-exact}
+use Rattle.table.proofs.Front.{front-count, front-exact, front-stands}
 use Rattle.table.proofs.test_records.Statement.{statement}
 use Rattle.table.proofs.test_records.Tie as tie
 
@@ -23,31 +24,39 @@ abbrev μ-loop : tie.MeasureT-loop
 loop-holds : tie.Need-loop-holds Inv-loop μ-loop
 loop-holds c = (λ m h. absurd (omega arith), omega arith)
 
--- the answer for record n
-checked :
-    (c : tie.After-check-record Inv-loop μ-loop) →
-    let entry = c .before .before .before .before in
-    CheckAnswer (take (16 * entry .args .count) (now (entry .args .table))) (c .before .before .loop .n) (c .check-record .result)
-checked c =
+check-decoded-requires : tie.Need-check-decoded-requires Inv-loop μ-loop
+check-decoded-requires c κs =
     let l = c .before .before in
     let entry = l .before .before in
+    front-stands (now (entry .args .table)) (entry .args .count) (entry .pre) _ (omega arith) (λ m h. l .loop .inv .0 m (omega arith))
+
+-- the answer for record n
+answer :
+    (c : tie.After-check-decoded Inv-loop μ-loop) →
+    let l = c .before .before .before in
+    let a = l .before .before .args in
+    CheckAnswer (take (16 * a .count) (now (a .table))) (l .loop .n) (c .check-decoded .result)
+answer c =
+    let l = c .before .before .before in
+    let entry = l .before .before in
     let a = entry .args in
-    let bytes : Bytes (now (a .table)) = record { below = λ i. omega (arith, l .before .shared-slice-known .given i) } in
-    subst (CheckAnswer (take (16 * a .count) (now (a .table))) (l .loop .n)) (sym (c .check-record .ensures))
-    (front-exact (now (a .table)) (a .count) (entry .pre) bytes (l .loop .n) (omega arith) (l .loop .inv .0))
+    let b = now (a .table) in
+    let same = c .check-decoded .ensures ∙ ap (checked (eventsOf b .at) (l .loop .n)) (c .before .read-at .ensures) in
+    subst (CheckAnswer (take (16 * a .count) b) (l .loop .n)) (sym same)
+    (front-exact b (a .count) (entry .pre) (l .loop .n) (omega arith))
 
 loop-again : tie.Need-loop-again Inv-loop μ-loop
 loop-again c =
     let k = c .before .before in
-    (below-more _ _ (k .before .before .loop .inv .0) (passes-of (rw (c .enum-told .given .1) at (checked k))), omega arith)
+    (below-more _ _ (k .before .before .before .loop .inv .0) (passes-of (rw (c .enum-told .given .1) at (answer k))), omega arith)
 
 returns : tie.Need-returns Inv-loop μ-loop
 returns c =
     let k = c .before .before .before in
-    let l = k .before .before in
+    let l = k .before .before .before in
     let a = l .before .before .args in
     let held = front-count (now (a .table)) (a .count) (l .before .before .pre) in
-    refused (first-fault {n = l .loop .n} (omega (arith, held)) (l .loop .inv .0) (fault-of (rw (c .before .f .given .1) at (checked k))))
+    refused (first-fault {n = l .loop .n} (omega (arith, held)) (l .loop .inv .0) (fault-of (rw (c .before .f .given .1) at (answer k))))
 
 returns-2 : tie.Need-returns-2 Inv-loop μ-loop
 returns-2 c =
@@ -60,4 +69,4 @@ returns-2 c =
 pub test-records-spec : {M : Type 1} → statement M
 test-records-spec =
     tie.close
-    (tie.spec Inv-loop μ-loop loop-holds (search needs) (search needs) (search needs) returns (search needs) (search needs) loop-again returns-2)
+    (tie.spec Inv-loop μ-loop loop-holds (search needs) check-decoded-requires (search needs) (search needs) returns (search needs) (search needs) loop-again returns-2)

@@ -3,9 +3,8 @@ use mathlib.Core.Path.{refl}
 use native.Mathlib.Omega.{arith}
 use borrow.Author.Needs.{needs}
 use denote.Ref.{now}
-use Rattle.table.specs.Test.{CheckAnswer}
 use Rattle.table.proofs.Exact.{passes-of, fault-of}
-use Rattle.edit.specs.Append.{Ready, full, no-room, bad-new, good, extended}
+use Rattle.edit.specs.Append.{Ready, full, no-room, bad-new, good}
 use Rattle.edit.proofs.NewRecord.{in-use-pass}
 use Rattle.edit.proofs.appending.answer_for_new.Statement.{statement}
 use Rattle.edit.proofs.appending.answer_for_new.Tie as tie
@@ -21,21 +20,18 @@ ready c =
     let entry = c .before .before .before .before in
     record { sound-use = entry .pre; not-full = c .before .before .if1 .left; room = c .before .if2 .taken }
 
-checked :
-    (c : tie.After-check-new) →
-    let a = c .before .before .before .before .args in
-    CheckAnswer (extended (now (a .buffer)) (a .used) (a .new)) (a .used) (c .check-new .result)
-checked c =
-    let entry = c .before .before .before .before in
-    c .check-new .ensures .exact (in-use-pass (entry .pre))
+check-new-requires : tie.Need-check-new-requires
+check-new-requires c κs =
+    let entry = c .before .before .before in
+    record { held = entry .pre .in-use .held; passed = in-use-pass (entry .pre) }
 
 returns-2 : tie.Need-returns-2
-returns-2 c = good (ready (c .before .before)) (passes-of (rw (c .enum-told .given .1) at (checked (c .before .before))))
+returns-2 c = good (ready (c .before .before)) (passes-of (rw (c .enum-told .given .1) at (c .before .before .check-new .ensures)))
 
 returns-3 : tie.Need-returns-3
 returns-3 c =
     let k = c .before .before .before in
-    bad-new (ready k) (fault-of (rw (c .before .f .given .1) at (checked k))) refl
+    bad-new (ready k) (fault-of (rw (c .before .f .given .1) at (k .check-new .ensures))) refl
 
 returns-4 : tie.Need-returns-4
 returns-4 c =
@@ -44,4 +40,4 @@ returns-4 c =
 pub answer-for-new-spec : {M : Type 1} → statement M
 answer-for-new-spec =
     tie.close
-    (tie.spec returns (search needs) (search needs) (search needs) (search needs) (search needs) (search needs) returns-2 returns-3 returns-4)
+    (tie.spec returns (search needs) (search needs) check-new-requires (search needs) (search needs) (search needs) returns-2 returns-3 returns-4)

@@ -4,7 +4,7 @@ use Prim.Native.Nat.{_-_, _≤_}
 use native.Mathlib.Omega.{arith}
 use lib.ListN.{length, take}
 use borrow.Author.Needs.{needs}
-use Rattle.findings.specs.declared.Finding.the-variants.{W}
+use Rattle.findings.specs.declared.Finding.the-variants.{R}
 use Rattle.findings.specs.Family.{inOrder}
 use Rattle.text.specs.Text.{Written}
 use Rattle.text.proofs.Laws.{written-length, written-text, written-nothing, each-room, each-more}
@@ -31,7 +31,8 @@ finding-line-requires c κs =
       omega (
         arith,
         ap length (line-is (a .x) (a .first .now) (a .second .now) (at .at .result) found (buffer .buffer-of .ensures)),
-        each-room (findingLine (witnesses (a .x) (a .first .now) (a .second .now))) (a .out .now) inOrder (turn .loop .out) (a .at) (length inOrder) (turn .loop .place) (turn .loop .next) W (at .at .result) (omega arith) (omega arith) (entry .pre .0) (turn .loop .inv .1) (at .at .ensures),
+        each-room (findingLine (witnesses (a .x) (a .first .now) (a .second .now))) (a .out .now) inOrder (turn .loop .out) (a .at) (length inOrder)
+            (turn .loop .place) (turn .loop .next) R (at .at .result) (omega arith) (omega arith) (entry .pre .0) (turn .loop .inv .1) (at .at .ensures),
       ),
       whole-is (a .x) (a .first .now) (a .second .now) (at .at .result) found (buffer .buffer-of .ensures) (entry .pre .1),
     )
@@ -45,8 +46,10 @@ loop-again c =
     let entry = turn .before .before .before .before in
     let a = entry .args in (
       omega arith,
-      each-more (findingLine (witnesses (a .x) (a .first .now) (a .second .now))) (a .out .now) inOrder (turn .loop .out) (a .at) (length inOrder) (turn .loop .place) (turn .loop .next) W (at .at .result) (omega arith) (omega arith) (entry .pre .0) (turn .loop .inv .1) (at .at .ensures)
-          (written-text (line-is (a .x) (a .first .now) (a .second .now) (at .at .result) (buffer .before .of .ensures) (buffer .buffer-of .ensures)) (line .finding-line .ensures)),
+      each-more (findingLine (witnesses (a .x) (a .first .now) (a .second .now))) (a .out .now) inOrder (turn .loop .out) (a .at) (length inOrder)
+          (turn .loop .place) (turn .loop .next) R (at .at .result) (omega arith) (omega arith) (entry .pre .0) (turn .loop .inv .1) (at .at .ensures)
+          (written-text (line-is (a .x) (a .first .now) (a .second .now) (at .at .result) (buffer .before .of .ensures) (buffer .buffer-of .ensures))
+          (line .finding-line .ensures)),
     )
 
 returns : tie.Need-returns Inv-loop μ-loop

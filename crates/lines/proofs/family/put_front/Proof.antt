@@ -1,7 +1,6 @@
 -- `family::put_front` meets its contract: the part lent is the front of the two bytes.
 use mathlib.Core.Path.{sym}
 use borrow.Author.Needs.{needs}
-use native.Mathlib.Omega.{arith}
 use lib.Seq.{length-take-le}
 use Rattle.lines.proofs.family.put_front.Statement.{statement}
 use Rattle.lines.proofs.family.put_front.Tie as tie

@@ -1,5 +1,5 @@
 -- `family::put_witness` meets its contract: each arm writes what the witness found says.
-use mathlib.Core.Path.{_≡_, sym, ap, subst}
+use mathlib.Core.Path.{sym, ap, subst}
 use mathlib.Core.List.{List}
 use Prim.Native.Nat.{ℕ}
 use borrow.Author.Needs.{needs}
@@ -80,4 +80,5 @@ returns-4 c =
 pub put-witness-spec : {M : Type 1} → statement M
 put-witness-spec =
     tie.close
-    (tie.spec (search needs) (search needs) put-requires (search needs) put-spaced-requires (search needs) put-spaced-requires-2 put-spaced-requires-3 (search needs) put-each-requires (search needs) returns (search needs) returns-2 (search needs) returns-3 (search needs) returns-4)
+    (tie.spec (search needs) (search needs) put-requires (search needs) put-spaced-requires (search needs) put-spaced-requires-2 put-spaced-requires-3
+    (search needs) put-each-requires (search needs) returns (search needs) returns-2 (search needs) returns-3 (search needs) returns-4)

@@ -8,7 +8,7 @@ returns c =
     let parent = c .before .before in
     let event = parent .before .before .before in
     let written = event .before .before .before .before .before in
-    let read = written .before .before .before .before in
+    let read = written .before .before .before .before .before in
     simp (
       c .link-from2 .ensures,
       parent .link-from .ensures,
@@ -16,8 +16,10 @@ returns c =
       event .before .before .order-from .ensures,
       written .value-from2 .ensures,
       written .before .word-of2 .ensures,
+      written .before .before .before .before .written-u .ensures,
       read .value-from .ensures,
       read .before .word-of .ensures,
+      read .before .before .before .before .read-u .ensures,
     )
 
 pub record-from-spec : {M : Type 1} → statement M

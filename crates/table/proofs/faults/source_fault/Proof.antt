@@ -1,5 +1,5 @@
--- `faults::source_fault` meets its contract: each way out rewrites by the tests that led there.
-use borrow.Author.Tests.{eq-eqb, ne-eqb, le-ltb, lt-ltb}
+-- `faults::source_fault` meets its contract: each way out rewrites by the arms that led there.
+use mathlib.Core.Path.{sym, _∙_}
 use Rattle.table.specs.Computed.{sourceFault}
 use borrow.Author.Needs.{needs}
 use Rattle.table.proofs.faults.source_fault.Statement.{statement}
@@ -7,36 +7,25 @@ use Rattle.table.proofs.faults.source_fault.Tie as tie
 
 returns : tie.Need-returns
 unfolding sourceFault
-returns c = simp (c .before .before .before .if1 .taken, eq-eqb _ _ (c .before .if2 .taken))
+returns c = rw (sym (c .before .before .read-by .ensures) ∙ c .enum-told .given .1)
 
 returns-2 : tie.Need-returns-2
 unfolding sourceFault
 returns-2 c =
-    let test = c .before .before in
-    let none = test .before .before in
-    simp (
-      none .before .before .if1 .taken,
-      ne-eqb _ _ (none .if2 .left),
-      lt-ltb _ _ (rw (test .before .wide .ensures) at (test .if3 .taken)),
-      c .suits .ensures,
-      c .before .part-at .ensures .is,
-      test .before .wide .ensures,
-    )
+    let reads = c .before .before .before .before in
+    simp (sym (reads .before .before .read-by .ensures) ∙ reads .location .given .1, c .before .enum-told2 .given .1, c .is-u .ensures)
 
 returns-3 : tie.Need-returns-3
 unfolding sourceFault
 returns-3 c =
-    let none = c .before .before in
+    let linked = c .before .before .before in
+    let reads = linked .before .before .before in
     simp (
-      none .before .before .if1 .taken,
-      ne-eqb _ _ (none .if2 .left),
-      le-ltb _ _ (rw (c .before .wide .ensures) at (c .if3 .left)),
+      sym (reads .before .before .read-by .ensures) ∙ reads .location .given .1,
+      linked .source .given .1,
+      c .is-unfit .ensures,
+      c .before .wide .ensures,
     )
 
-returns-4 : tie.Need-returns-4
-unfolding sourceFault
-returns-4 c = simp (c .if1 .left)
-
 pub source-fault-spec : {M : Type 1} → statement M
-source-fault-spec =
-    tie.close (tie.spec (search needs) (search needs) (search needs) returns (search needs) (search needs) (search needs) returns-2 returns-3 returns-4)
+source-fault-spec = tie.close (tie.spec (search needs) (search needs) (search needs) (search needs) (search needs) (search needs) (search needs) (λ c κs. search needs) returns returns-2 returns-3)

@@ -3,15 +3,17 @@ use mathlib.Core.Path.{_≡_, refl, ap}
 use Prim.Native.Nat.{ℕ, _-_, _≤_}
 use native.Mathlib.Omega.{arith}
 use lib.Dec.{eqb}
-use borrow.Author.Needs.{needs}
 use Rattle.laws.specs.Says.{anyBelow}
 use Rattle.table.specs.Computed.{stood}
+use Rattle.table.specs.Events.{eventsOf}
 use Rattle.table.proofs.Search.{any-more}
+use Rattle.table.proofs.Standing.{stands-one}
+use borrow.Author.Needs.{needs}
 use Rattle.table.proofs.faults.thread_stood.Statement.{statement}
 use Rattle.table.proofs.faults.thread_stood.Tie as tie
 
 abbrev Inv-loop : tie.InvT-loop
-Inv-loop table n thread found₀ m₀ found m = (found ≡ stood table m thread) × (m ≤ n)
+Inv-loop table n thread found₀ m₀ found m = (found ≡ stood (eventsOf table .at) m thread) × (m ≤ n)
 
 abbrev μ-loop : tie.MeasureT-loop
 μ-loop table n thread found₀ m₀ found m = n - m
@@ -19,6 +21,10 @@ abbrev μ-loop : tie.MeasureT-loop
 loop-holds : tie.Need-loop-holds Inv-loop μ-loop
 unfolding anyBelow
 loop-holds c = (refl, omega arith)
+
+thread-at-requires : tie.Need-thread-at-requires Inv-loop μ-loop
+thread-at-requires c κs =
+    stands-one (c .before .before .before .pre) _ (omega arith)
 
 loop-again : tie.Need-loop-again Inv-loop μ-loop
 loop-again c =
@@ -33,5 +39,4 @@ returns c =
     rw (← e) (l .inv .0)
 
 pub thread-stood-spec : {M : Type 1} → statement M
-thread-stood-spec =
-    tie.close (tie.spec Inv-loop μ-loop loop-holds (search needs) (search needs) (search needs) loop-again returns)
+thread-stood-spec = tie.close (tie.spec Inv-loop μ-loop loop-holds thread-at-requires (search needs) (search needs) loop-again returns)

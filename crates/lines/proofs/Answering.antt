@@ -1,0 +1,84 @@
+-- The text of a table's answer fits, and stands at the front of the buffer where it was written.
+use mathlib.Core.Path.{_≡_, refl, sym, ap, subst, _∙_}
+use mathlib.Core.List.{List, _++_}
+use Prim.Native.Nat.{ℕ, _+_, _<_, _≤_}
+use native.Mathlib.Nat.{zero-add}
+use native.Mathlib.Omega.{arith}
+use lib.ListN.{length, take, drop}
+use lib.Seq.{take-at, length-take-le}
+use Rattle.refusals.specs.declared.Fault.{Fault}
+use Rattle.refusals.specs.declared.Fault.the-variants.{Mark, Kind, Rest, Range, Parent, Source, Twin}
+use Rattle.refusals.specs.declared.Refusal.{Refusal}
+use Rattle.refusals.specs.declared.Refusal.the-variants as refusal
+use Rattle.refusals.specs.declared.Told.{Told}
+use Rattle.refusals.specs.Numbers.{at, faultNumber, told}
+use Rattle.table.specs.declared.Tested.the-variants as tested
+use Rattle.table.specs.Test.{FirstFault, first-fault, refused, TestAnswer, wrong-length, records}
+use Rattle.table.proofs.Front.{right-length}
+use Rattle.table.proofs.WellFormed.{sound-count}
+use Rattle.facts.proofs.Promise.{sound-table}
+use Rattle.text.specs.Text.{Written}
+use Rattle.text.proofs.Laws.{written-length}
+use Rattle.lines.specs.Room.{Room, longest}
+use Rattle.lines.specs.declared.Wrote.the-variants.{Refused, Length}
+use Rattle.lines.specs.Answer.{TextOf, TextAt, WriteAnswer}
+use Rattle.lines.proofs.Lengths.{refused-short, report-short}
+
+-- ---- every text fits
+
+-- what is told has small numbers
+record SmallTold (x : Told) : Type 0 where
+  number : x .number < 1000
+  place : x .place < 1000
+
+fault-small : (f : Fault) → faultNumber f < 1000
+fault-small Mark = omega arith
+fault-small Kind = omega arith
+fault-small Rest = omega arith
+fault-small Range = omega arith
+fault-small Parent = omega arith
+fault-small Source = omega arith
+fault-small Twin = omega arith
+
+told-small : {b : List ℕ} {r : Refusal} → TestAnswer b (tested.Refused r) → SmallTold (told r)
+told-small (wrong-length _ e) = subst SmallTold (sym e) (record { number = omega arith; place = omega arith })
+told-small {b} (records ok (refused f)) = go f
+  where
+    go : {x : Told} → FirstFault b x → SmallTold x
+    go (first-fault {f = f} inside _ _) = record { number = fault-small f; place = omega (arith, right-length (length b) ok .within) }
+
+text-short : {b text : List ℕ} → TextOf b text → length text ≤ longest
+text-short (TextOf.refused {r = r} test) =
+    let small = told-small test in
+    refused-short (told r) (small .number) (small .place)
+text-short {b} (TextOf.reported {n = n} test right) =
+    let sound = sound-table b n test in
+    report-short (sound .formed) (sound .few) right n (omega (arith, sound .few, sound-count b n test))
+
+-- ---- and is where it was written
+
+module _ {b : List ℕ} (out : List ℕ) (room : longest ≤ length out) {text : List ℕ} (is : TextOf b text) where
+  pub text-room : Room out 0 text
+  text-room = omega (arith, text-short is)
+
+  pub text-at : {after : List ℕ} {len : ℕ} → Written out 0 text after len → TextAt b after len
+  text-at {after} {len} w = record {
+    text = subst (TextOf b) (sym (ap (take len) (w .holds) ∙ take-at text (drop (0 + length text) out) len (sym long))) is;
+    within = omega (arith, text-room, written-length text-room w, long);
+  }
+    where
+      long : len ≡ length text
+      long = w .next ∙ zero-add (length text)
+
+-- the text is copied to where it was asked for
+module _ {b text : List ℕ} {len : ℕ} (at : TextAt b text len) where
+  pub text-long : length (take len text) ≡ len
+  text-long = length-take-le len text (at .within)
+
+  pub no-room-for : (before : List ℕ) → length before < len → WriteAnswer b before before (Refused refusal.Room)
+  no-room-for before h = WriteAnswer.no-room (at .text) (omega (arith, text-long)) refl refl
+
+  pub copied : (before : List ℕ) → len ≤ length before → {after : List ℕ} {r : ℕ} → Written before 0 (take len text) after r → WriteAnswer b before after (Length len)
+  copied before h w =
+      WriteAnswer.written (at .text) (sym text-long) h
+      (w .holds ∙ ap (λ (n : ℕ). take len text ++ drop n before) (zero-add (length (take len text)) ∙ text-long))
