@@ -8,8 +8,8 @@ use edit::cutting::cut;
 use programs::examples;
 use programs::examples::E8;
 use programs::examples::E9;
-use programs::examples::MARK;
 use programs::say;
+use record::places::MARK_SECOND;
 use record::places::SIZE;
 
 // A cut into the first `room` bytes.
@@ -67,7 +67,7 @@ pub fn of_no_table() {
     let e2 = examples::e2();
     say_cut(b"79 bytes", &e2[0..79], 0, 0);
     say_cut(b"no bytes", &e2[0..0], 0, 0);
-    say_cut(b"bad mark", &examples::changed(2, MARK, 0x57), 0, 0);
+    say_cut(b"bad mark", &examples::changed(2, MARK_SECOND, 0x57), 0, 0);
 }
 
 pub fn of_e8() {

@@ -7,13 +7,13 @@ use crate::appends::say_within;
 use events::Order;
 use events::Record;
 use limits::LIMIT;
-use programs::examples::MARK;
 use programs::large;
 use programs::large::Large;
 use programs::records::load;
 use programs::records::store;
 use programs::say;
 use programs::script::record_named;
+use record::places::MARK_SECOND;
 use record::places::SIZE;
 
 // An append to the first `room` bytes of a table, and whether it changed any byte of it.
@@ -52,7 +52,7 @@ pub fn events(t: [u8; 96]) {
 // The mark of record 2 is wrong.
 fn bad_mark(table: [u8; 96]) -> [u8; 96] {
     let mut t = table;
-    t[2 * SIZE + MARK] = 0x57;
+    t[2 * SIZE + MARK_SECOND] = 0x57;
     t
 }
 

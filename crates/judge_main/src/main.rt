@@ -10,9 +10,9 @@ use crate::tables::judge_large;
 use crate::tables::judge_script;
 use limits::LIMIT;
 use programs::examples;
-use programs::examples::MARK;
 use programs::large::Large;
 use record::places::KIND;
+use record::places::MARK_SECOND;
 use record::places::NONE;
 use record::places::PARENT;
 use record::places::READ;
@@ -47,7 +47,7 @@ fn arms() {
 
 // "Order of a judging: 1, 11, then records."
 fn orders() {
-    let table = examples::changed(0, MARK, 0);
+    let table = examples::changed(0, MARK_SECOND, 0);
     say_judging(b"79 bytes", &table[0..79]);
     say_judging(b"0 bytes", &table[0..0]);
     say_lent(b"79 bytes, short first", &table[0..79], LIMIT - 1, LIMIT);
@@ -57,7 +57,7 @@ fn orders() {
 }
 
 fn faults() {
-    judge_changed(b"mark of 2", 2, MARK, 0x57);
+    judge_changed(b"mark of 2", 2, MARK_SECOND, 0x57);
     judge_changed(b"kind 4", 2, KIND, 4);
     judge_changed(b"byte 9", 2, 9, 1);
     judge_changed(b"thread 16", 1, THREAD, 16);

@@ -1,5 +1,6 @@
 // Tables of the shared kinds, judged.
 ghost use Prim.Native.Nat.{_<_, _≤_};
+ghost use Rattle.record.specs.Form.{recordSize};
 use crate::judging::say_judging;
 use limits::LIMIT;
 use programs::examples;
@@ -29,7 +30,7 @@ pub fn judge_large(name: &[u8], large: Large, count: u8)
 
 // E2 with one byte of record n changed.
 pub fn judge_changed(name: &[u8], n: usize, place: usize, byte: u8)
-    requires { ⌜ (n < 5) × (place < 16) ⌝ }
+    requires { ⌜ (n < 5) × (place < recordSize) ⌝ }
 {
     say_judging(name, &examples::changed(n, place, byte));
 }

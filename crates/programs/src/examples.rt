@@ -1,5 +1,6 @@
 // Document 01's examples as scripts, and E2 as bytes.
 ghost use Prim.Native.Nat.{_<_};
+ghost use Rattle.record.specs.Form.{recordSize};
 use crate::script;
 use crate::script::WIDTH;
 use record::places::SIZE;
@@ -29,9 +30,6 @@ pub const E9: [u8; 11 * WIDTH] =
 pub const E10: [u8; 12 * WIDTH] =
     *b"In0----- Sn00-2-0 In11---- In21---- In31---- Sr12-2-1 La23120- La23521- Sr26-0-1 Sr27-1-1 La34801- La3A911- ";
 
-// The second byte of the mark that a record begins with.
-pub const MARK: usize = 1;
-
 // E2 as bytes.
 pub fn e2() -> [u8; 5 * SIZE] {
     let mut table = [0u8; 5 * SIZE];
@@ -41,7 +39,7 @@ pub fn e2() -> [u8; 5 * SIZE] {
 
 // E2 with one byte of record n changed.
 pub fn changed(n: usize, place: usize, byte: u8) -> [u8; 5 * SIZE]
-    requires { ⌜ (n < 5) × (place < 16) ⌝ }
+    requires { ⌜ (n < 5) × (place < recordSize) ⌝ }
 {
     let mut table = e2();
     table[SIZE * n + place] = byte;

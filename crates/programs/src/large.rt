@@ -1,6 +1,7 @@
 // Large tables, record by record.
 ghost use Prim.Native.Nat.{_*_, _≤_};
 ghost use lib.ListN.{length};
+ghost use Rattle.record.specs.Form.{recordSize};
 use crate::records::init;
 use crate::records::load;
 use crate::records::load_u;
@@ -85,7 +86,7 @@ fn record_of(large: Large, n: u8) -> Record {
 
 // Writes the first `count` records of a large table.
 pub fn write(large: Large, count: u8, out: &mut [u8])
-    requires { ⌜ 16 * count ≤ length (now out) ⌝ }
+    requires { ⌜ recordSize * count ≤ length (now out) ⌝ }
 {
     for n in 0..count {
         record::write_at(out, n as usize, record_of(large, n));

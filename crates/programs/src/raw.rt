@@ -1,23 +1,24 @@
 // A record out of sixteen bytes, whatever they hold.
 use events::Event;
-use events::Link;
 use events::Order;
 use events::Record;
 use events::Value;
+use record::link_from;
 use record::places::FLAGS;
 use record::places::KIND;
 use record::places::LOAD;
 use record::places::LOCATION;
-use record::places::NONE;
 use record::places::ORDER;
 use record::places::PARENT;
 use record::places::READ;
+use record::places::READ_HIGH;
 use record::places::SIZE;
 use record::places::SOURCE;
 use record::places::STORE;
 use record::places::THREAD;
 use record::places::UPDATE;
 use record::places::WRITTEN;
+use record::places::WRITTEN_HIGH;
 
 // Two bytes as a number, low byte first.
 pub fn word_of(low: u8, high: u8) -> u16 {
@@ -31,14 +32,6 @@ fn order_of(code: u8) -> Order {
         Order::AR => Order::Ar,
         Order::SC => Order::Sc,
         _ => Order::Na,
-    }
-}
-
-fn link_of(byte: u8) -> Link {
-    if byte == NONE {
-        Link::Absent
-    } else {
-        Link::To(byte)
     }
 }
 
@@ -70,13 +63,13 @@ fn event_of(kind: u8, order: Order, location: u8, read: Value, written: Value) -
 
 pub fn record_of(b: &[u8; SIZE]) -> Record {
     let flags = b[FLAGS];
-    let read = value_of(flags % 2 == 1, word_of(b[READ], b[READ + 1]));
-    let written = value_of(2 <= flags, word_of(b[WRITTEN], b[WRITTEN + 1]));
+    let read = value_of(flags % 2 == 1, word_of(b[READ], b[READ_HIGH]));
+    let written = value_of(2 <= flags, word_of(b[WRITTEN], b[WRITTEN_HIGH]));
     let event = event_of(b[KIND], order_of(b[ORDER]), b[LOCATION], read, written);
     Record {
         thread: b[THREAD],
-        parent: link_of(b[PARENT]),
-        source: link_of(b[SOURCE]),
+        parent: link_from(b[PARENT]),
+        source: link_from(b[SOURCE]),
         event,
     }
 }

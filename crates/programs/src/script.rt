@@ -4,6 +4,7 @@
 ghost use mathlib.Core.Path.{_≡_};
 ghost use Prim.Native.Nat.{_+_, _*_, _/_, _≤_};
 ghost use lib.ListN.{length};
+ghost use Rattle.record.specs.Form.{recordSize};
 use crate::raw::record_of;
 use crate::records::root;
 use events::Order;
@@ -56,7 +57,7 @@ fn digit_of(c: u8) -> u8 {
     0
 }
 
-fn link_of(c: u8) -> u8 {
+fn link_byte(c: u8) -> u8 {
     if c == b'-' { NONE } else { digit_of(c) }
 }
 
@@ -79,8 +80,8 @@ pub fn record_named(part: &[u8]) -> Record
     b[KIND] = kind_of(part[0]);
     b[ORDER] = order_of(part[1]);
     b[THREAD] = digit_of(part[2]);
-    b[PARENT] = link_of(part[3]);
-    b[SOURCE] = link_of(part[4]);
+    b[PARENT] = link_byte(part[3]);
+    b[SOURCE] = link_byte(part[4]);
     b[LOCATION] = digit_of(part[5]);
     b[FLAGS] = flags_of(part[6], part[7]);
     b[READ] = number_of(part[6]);
@@ -98,7 +99,7 @@ pub fn record_at(script: &[u8], n: usize) -> Record
 
 // Writes each record of a script.
 pub fn write(script: &[u8], out: &mut [u8])
-    requires { ⌜ 16 * (length (now script) / 9) ≤ length (now out) ⌝ }
+    requires { ⌜ recordSize * (length (now script) / 9) ≤ length (now out) ⌝ }
 {
     for n in 0..script.len() / WIDTH {
         record::write_at(out, n, record_at(script, n));

@@ -7,6 +7,7 @@ use edit::appending::append;
 use edit::cutting::CutDown;
 use edit::cutting::cut;
 use events::Record;
+use lines::TEXT;
 use lines::Wrote;
 use lines::write_answer;
 use programs::raw::record_of;
@@ -23,9 +24,6 @@ const MOST: usize = 4096;
 // What an output holds before a cut.
 const FILL: u8 = 0xA5;
 
-// Room for any report.
-const REPORT: usize = 128 + 8 * limits::LIMIT;
-
 fn end_line() -> bool {
     say::text(b"\n")
 }
@@ -35,7 +33,7 @@ fn say_hex(bytes: &[u8]) -> bool {
 }
 
 fn say_report(table: &[u8]) -> bool {
-    let mut out = [0u8; REPORT];
+    let mut out = [0u8; TEXT];
     match write_answer(table, &mut out) {
         Wrote::Length(len) => say::text(&out[..len]),
         Wrote::Refused(r) => say::refusal(r) & end_line(),

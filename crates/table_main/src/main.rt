@@ -1,14 +1,15 @@
 // The edges of document 01 on tables as bytes, one table for each refusal from 1 to 8, and the fetch: what the code says of them.
 ghost use Prim.Native.Nat.{_<_};
+ghost use Rattle.record.specs.Form.{recordSize};
 use events::Order;
 use programs::examples;
-use programs::examples::MARK;
 use programs::large;
 use programs::large::Large;
 use programs::say;
 use programs::say::Form;
 use record::places::KIND;
 use record::places::LOCATION;
+use record::places::MARK_SECOND;
 use record::places::NONE;
 use record::places::ORDER;
 use record::places::PARENT;
@@ -53,7 +54,7 @@ fn say_fetch(table: &[u8], n: usize) -> bool {
 
 // The test of E2 with one byte of record n changed.
 fn say_changed(what: &[u8], n: usize, place: usize, byte: u8) -> bool
-    requires { ⌜ (n < 5) × (place < 16) ⌝ }
+    requires { ⌜ (n < 5) × (place < recordSize) ⌝ }
 {
     say_test(what, &examples::changed(n, place, byte))
 }
@@ -72,7 +73,7 @@ fn faults() {
     say_changed(b"thread 16:", 1, THREAD, 16);
     say_changed(b"location 31:", 3, LOCATION, 31);
     say_changed(b"location 32:", 3, LOCATION, 32);
-    say_changed(b"mark:", 2, MARK, 0x57);
+    say_changed(b"mark:", 2, MARK_SECOND, 0x57);
     say_changed(b"kind 4:", 2, KIND, 4);
     say_changed(b"order REL of a load:", 2, ORDER, Order::REL);
     say_changed(b"byte 9:", 2, 9, 1);

@@ -1,12 +1,12 @@
 // Judges the table on standard input, and writes its report to standard output.
+use limits::LIMIT;
+use lines::TEXT;
 use lines::Wrote;
 use lines::write_answer;
+use record::places::SIZE;
 
 // One record more than a table may have: a longer input is refused by what is read of it.
-const MOST: usize = 16 * limits::LIMIT + 16;
-
-// Room for any report.
-const REPORT: usize = 128 + 8 * limits::LIMIT;
+const MOST: usize = SIZE * LIMIT + SIZE;
 
 fn write_out(text: &[u8]) {
     if !io::write_all(libc::STDOUT_FILENO, text) {
@@ -15,7 +15,7 @@ fn write_out(text: &[u8]) {
 }
 
 fn answer(table: &[u8]) {
-    let mut out = [0u8; REPORT];
+    let mut out = [0u8; TEXT];
     match write_answer(table, &mut out) {
         Wrote::Length(len) => write_out(&out[..len]),
         Wrote::Refused(_) => os::fail(b"report"),

@@ -11,12 +11,12 @@ array-share-prefix-out c =
     let wrote = c .before .before .before .before in
     length-within (wrote .write-answer .ensures) (c .before .len .given .1)
 
-slice-aggregate-say : tie.Need-slice-aggregate-say
-slice-aggregate-say c =
+slice-aggregate-text : tie.Need-slice-aggregate-text
+slice-aggregate-text c =
     let wrote = c .before .before .before .before .before in
     sym (length-take-le _ _ (length-within (wrote .write-answer .ensures) (c .before .before .len .given .1)))
 
 pub say-report-spec : {M : Type 1} → statement M
 say-report-spec =
     tie.close
-    (tie.spec (search needs) (λ c κs. search needs) (search needs) array-share-prefix-out slice-aggregate-say (λ c κs. search needs) (search needs) (λ c κs. search needs) (search needs) (search needs))
+    (tie.spec (search needs) (λ c κs. search needs) (search needs) array-share-prefix-out slice-aggregate-text (λ c κs. search needs) (search needs) (λ c κs. search needs) (λ c κs. search needs) (search needs) (search needs))
