@@ -12,7 +12,6 @@ pub mod Cycles
 pub mod Mirror
 pub mod MirrorTells
 pub mod MirrorReport
-pub mod Decide
 pub mod Worked
 pub mod WrongJudges
 pub mod Links
