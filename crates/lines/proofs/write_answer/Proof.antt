@@ -10,7 +10,7 @@ returns : tie.Need-returns
 returns c =
     let made = c .before .before in
     let entry = made .before .before .before .before in
-    no-room-for (made .put-answer .ensures) (entry .args .out .now) (c .if1 .taken)
+    no-room-for (made .put-answer .ensures) (entry .args .out .now) (omega (arith, c .if1 .taken))
 
 slice-aggregate-put : tie.Need-slice-aggregate-put
 slice-aggregate-put c = sym (text-long (c .before .before .before .before .put-answer .ensures))
@@ -27,7 +27,7 @@ returns-2 c =
     let room = copy .before .before .before in
     let made = room .before .before in
     let entry = made .before .before .before .before in
-    copied (made .put-answer .ensures) (entry .args .out .now) (room .if1 .left) (copy .put .ensures)
+    copied (made .put-answer .ensures) (entry .args .out .now) (omega (arith, room .if1 .left)) (copy .put .ensures)
 
 pub write-answer-spec : {M : Type 1} → statement M
 write-answer-spec =
