@@ -1,4 +1,4 @@
--- The answers of a cut that are given once nothing is lacking, and what a sound table is to the code.
+-- The answers of a cut that are given once nothing is lacking, and the selection that a column holds.
 use mathlib.Core.Path.{_≡_, refl, sym, subst, ap, _∙_}
 use mathlib.Core.Bool.{Bool, true, false}
 use mathlib.Core.List.{List}
@@ -9,19 +9,12 @@ use lib.Dec.{T, eqb}
 use lib.ListN.{length, getD, replicate}
 use Rattle.refusals.specs.declared.Refusal.the-variants.{Room}
 use Rattle.model.specs.Cut.{newNumber}
-use Rattle.table.specs.declared.Tested.the-variants as tested
-use Rattle.table.specs.Test.{TestAnswer}
 use Rattle.table.proofs.WellFormed.{sound-count}
-use Rattle.facts.proofs.Promise.{sound-table}
-use Rattle.relations.specs.Asked.{Counted}
 use Rattle.edit.specs.declared.cutting.CutDown.{CutDown}
 use Rattle.edit.specs.declared.cutting.CutDown.the-variants.{Refused, Kept}
 use Rattle.edit.specs.Selection.{Refused9, past-count}
 use Rattle.edit.specs.Columns.{keptBy, Chosen}
 use Rattle.edit.specs.Cut.{cutBytes, Selected, Whole, Decides, no-room, good, CutAnswer}
-
-pub counted : (b : List ℕ) (n : ℕ) → TestAnswer b (tested.Sound n) → Counted b n
-counted b n x = record { sound = sound-table b n x; all = sym (sound-count b n x) }
 
 pub zeros : (n m : ℕ) → _≡_ {A = ℕ} (getD (replicate n 0) m 0) 0
 zeros zero m = refl

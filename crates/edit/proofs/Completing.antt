@@ -10,27 +10,19 @@ use Rattle.events.specs.declared.Link.{Link}
 use Rattle.events.specs.declared.Link.the-variants.{To}
 use Rattle.laws.specs.Says.{Says}
 use Rattle.laws.proofs.Says.{says-T, says-not, says-and, says-iff}
-use Rattle.matrix.specs.Matrix.{Cell}
-use Rattle.matrix.proofs.Cells.{of-cell, cell-of}
 use Rattle.model.specs.Relations.{EarlierRace, StandsOnRace}
 use Rattle.model.specs.Cut.{Complete}
 use Rattle.model.proofs.Facts.{parent-earlier, has-source, source-is-earlier-write}
-use Rattle.model.proofs.Within.{race-within}
 use Rattle.table.specs.Events.{eventsOf}
-use Rattle.relations.proofs.Counting.{formed, within-count}
+use Rattle.facts.proofs.Records.{formed}
 use Rattle.edit.specs.Columns.{keptBy, Judging}
 use Rattle.edit.specs.Cut.{Lacking}
 
 -- record n of the table b, and which records are kept
-module _ {b kept early before : List ℕ} {count n : ℕ} (j : Judging b count kept early before) (h : n < count) where
+module _ {b kept hb race : List ℕ} {count n : ℕ} (j : Judging b count kept hb race) (h : n < count) where
   -- a kept write that races earlier with n
   abbrev RaceKept : Type 0
   RaceKept = (w : ℕ) × (T (keptBy kept w) × EarlierRace (eventsOf b) w n)
-
-  pub race-told : {x : Bool} → Says x ((w : ℕ) × (T (keptBy kept w) × Cell count early w n)) → Says x RaceKept
-  race-told =
-      says-iff (λ (w, (is, c)). (w, (is, of-cell (j .by-race .holds) c)))
-      (λ (w, (is, r)). (w, (is, cell-of (j .by-race .holds) (within-count (j .table) (race-within (formed (j .table))) .left (r .race)) h r)))
 
   module _ {link : Link} (is : link ≡ eventsOf b .at n .parent) where
     pub parent-low : (p : ℕ) → link ≡ To p → p < length kept

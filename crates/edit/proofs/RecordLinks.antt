@@ -9,8 +9,8 @@ use Rattle.events.specs.declared.Record.{Record}
 use Rattle.record.specs.Form.{parentByte, sourceByte, linkFrom, part}
 use Rattle.record.proofs.Parts.{part-length}
 use Rattle.model.proofs.Facts.{parent-earlier, has-source, source-is-earlier-write}
-use Rattle.facts.specs.Sound.{Asked}
-use Rattle.facts.proofs.Bytes.{asked-read, asked-room}
+use Rattle.facts.specs.Sound.{One}
+use Rattle.facts.proofs.Bytes.{read-of, room-of}
 
 -- record n's sixteen bytes
 pub record Earlier (n : ℕ) (p : List ℕ) : Type 0 where
@@ -22,13 +22,13 @@ link-to : (byte : ℕ) → ¬ (byte ≡ 255) → linkFrom byte ≡ To byte
 unfolding linkFrom
 link-to byte h = rw (ne-eqb byte 255 h)
 
-pub earlier : (b : List ℕ) (n : ℕ) → Asked b n → Earlier n (part b n)
-earlier b n a =
-    let read = asked-read b n a in
-    let formed = a .0 .formed in
+pub earlier : {b : List ℕ} {n : ℕ} → One b n → Earlier n (part b n)
+earlier {b} {n} one =
+    let read = read-of one in
+    let formed = one .sound .formed in
     let p = part b n in
     record {
-      long = part-length b n (asked-room b n a);
+      long = part-length b n (room-of one);
       parent = λ h. parent-earlier formed (parentByte p) n (ap (λ (r : Record). r .parent) (sym (read .is)) ∙ link-to (parentByte p) h);
       source = λ h.
           source-is-earlier-write formed (has-source formed (sourceByte p) n (ap (λ (r : Record). r .source) (sym (read .is)) ∙ link-to (sourceByte p) h)) .earlier;

@@ -110,7 +110,7 @@ module _ (b : List ℕ) (k : ℕ → Bool) (S : SoundTable b) where
   -- a kept record is read back with its links renumbered
   kept-decodes : (n : ℕ) → Inside t n → T (k n) → decode (part cut (newNumber k n)) ≡ Good (renumbered (newNumber k) (t .at n))
   kept-decodes n h is =
-      let links = earlier b n (S, h) in
+      let links = earlier (record { sound = S; inside = h }) in
       let few = S .few in
       ap decode (kept-part k b (t .count) n (omega (arith, S .size)) h is)
       ∙ decode-renumbered (newNumber k) (part b n) (t .at n)

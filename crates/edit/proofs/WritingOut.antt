@@ -8,17 +8,14 @@ use lib.ListN.{length}
 use Rattle.record.specs.Form.{part, overwritten}
 use Rattle.model.specs.Cut.{newNumber}
 use Rattle.model.proofs.CutNumbers.{new-below, new-rises}
-use Rattle.facts.specs.Sound.{Asked}
-use Rattle.facts.proofs.Bytes.{asked-room}
+use Rattle.facts.proofs.Bytes.{room-of}
+use Rattle.facts.proofs.Records.{one-of}
 use Rattle.edit.specs.Columns.{numberIn, Placing, keptBy, Writing}
 use Rattle.edit.specs.Cut.{renumberedBytes, cutBytes}
 use Rattle.edit.proofs.KeptBytes.{same-renumbered, cut-length, cut-same, cut-more}
 use Rattle.edit.proofs.RecordLinks.{earlier}
 
 module _ {b kept numbers : List ℕ} {count : ℕ} {before : List ℕ} (w : Writing b kept numbers count before) where
-  asked : (n : ℕ) → n < count → Asked b n
-  asked n h = (w .table .sound, omega (arith, w .table .all))
-
   held : (n : ℕ) → n ≤ count → 16 * n ≤ length b
   held n h = omega (arith, w .table .all, w .table .sound .size)
 
@@ -31,10 +28,10 @@ module _ {b kept numbers : List ℕ} {count : ℕ} {before : List ℕ} (w : Writ
   module _ {n : ℕ} {out : List ℕ} (h : n < count) (so-far : out ≡ cutBytes (keptBy kept) b n before) where
     pub placing : T (keptBy kept n) → Placing b n numbers out
     placing is =
-        let links = earlier b n (asked n h) in
+        let links = earlier (one-of (w .table) h) in
         let long = ap length so-far ∙ written-length {n = n} (omega arith) in
         record {
-          held = asked-room b n (asked n h);
+          held = room-of (one-of (w .table) h);
           numbered = omega (arith, w .columns);
           links = record {
             long = links .long;
@@ -47,7 +44,7 @@ module _ {b kept numbers : List ℕ} {count : ℕ} {before : List ℕ} (w : Writ
     pub one-written :
         {out′ : List ℕ} → T (keptBy kept n) → out′ ≡ overwritten out (numberIn numbers n) (renumberedBytes (numberIn numbers) (part b n)) → out′ ≡ cutBytes (keptBy kept) b (n + 1) before
     one-written is e =
-        let links = earlier b n (asked n h) in
+        let links = earlier (one-of (w .table) h) in
         let same : (m : ℕ) → m < n → numberIn numbers m ≡ newNumber (keptBy kept) m = λ m l. w .numbered m (omega arith) in
         e
         ∙ (ap₂ (overwritten out) (w .numbered n h) (same-renumbered (numberIn numbers) (newNumber (keptBy kept)) (part b n) (λ some. same _ (links .parent some)) (λ some. same _ (links .source some)))

@@ -2,16 +2,20 @@
 use mathlib.Core.Path.{_≡_}
 use mathlib.Core.Bool.{Bool}
 use mathlib.Core.List.{List}
+use mathlib.Core.Option.{Option, none, some}
 use Prim.Native.Nat.{ℕ, _+_, _*_, _/_, _%_, _^_, _<_, _≤_}
 use lib.Dec.{eqb}
 use lib.ListN.{length, getD}
 use Rattle.laws.specs.Says.{Says}
 use Rattle.limits.specs.Limit.{limit}
 use Rattle.record.specs.Form.{parentByte, sourceByte, part}
-use Rattle.model.specs.Relations.{EarlierRace, WriteBefore}
+use Rattle.model.specs.Relations.{Hb, Race}
 use Rattle.model.specs.Cut.{newNumber}
 use Rattle.table.specs.Events.{eventsOf}
-use Rattle.relations.specs.Asked.{Counted, Given}
+use Rattle.facts.specs.Sound.{Counted}
+use Rattle.relations.specs.Given.{Given}
+use Rattle.edit.specs.declared.completeness.Lack.{Lack}
+use Rattle.edit.specs.declared.completeness.Lack.the-variants.{Nothing, Record}
 use Rattle.edit.specs.Selection.{Refused9}
 use Rattle.edit.specs.Cut.{Selected, Whole}
 
@@ -46,11 +50,16 @@ pub record Completed (b : List ℕ) (count : ℕ) (kept : List ℕ) : Type 0 whe
   pub room : count ≤ length kept
 
 -- a column, and the matrices that tell of racing writes
-pub record Judging (b : List ℕ) (count : ℕ) (kept early before : List ℕ) : Type 0 where
+pub record Judging (b : List ℕ) (count : ℕ) (kept hb race : List ℕ) : Type 0 where
   pub table : Counted b count
   pub room : count ≤ length kept
-  pub by-race : Given count (EarlierRace (eventsOf b)) early
-  pub by-write : Given count (WriteBefore (eventsOf b)) before
+  pub by-hb : Given count (Hb (eventsOf b)) hb
+  pub by-race : Given count (Race (eventsOf b)) race
+
+-- the least record that lacks something, if one does
+abbrev pub lackOf : Lack → Option ℕ
+lackOf Nothing = none
+lackOf (Record n) = some n
 
 -- ---- new numbers
 

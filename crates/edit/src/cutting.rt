@@ -5,11 +5,11 @@ ghost use Rattle.edit.specs.Columns.{keptBy, Choice, Completed};
 ghost use Rattle.edit.specs.Cut.{CutAnswer};
 ghost use Rattle.edit.specs.Selection.{named};
 use crate::choosing::choose;
+use crate::completeness::Lack;
 use crate::completeness::least_lacking;
 use crate::numbering::number;
 use crate::writing::write_kept;
 use limits::LIMIT;
-use matrix::search::First;
 use record::places::SIZE;
 use refusals::Refusal;
 use table::Tested;
@@ -40,8 +40,8 @@ fn cut_by(table: &[u8], count: usize, kept: &[u8], out: &mut [u8]) -> CutDown
     ensures { λ r. ⌜ CutAnswer (now (table .entry)) (keptBy (now (kept .entry))) (now (out .entry)) (now (out .exit)) r ⌝ }
 {
     match least_lacking(table, kept, count) {
-        First::At(n) => CutDown::Refused(Refusal::Incomplete(n)),
-        First::Nothing => cut_complete(table, count, kept, out),
+        Lack::Record(n) => CutDown::Refused(Refusal::Incomplete(n)),
+        Lack::Nothing => cut_complete(table, count, kept, out),
     }
 }
 

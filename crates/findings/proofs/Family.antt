@@ -27,7 +27,7 @@ place-below A4 = omega arith
 place-below W = omega arith
 
 pub finding-at : (f : Finding) → findingAt (placeOf f) ≡ f
-finding-at = at-place (λ (f : Finding). f) W
+finding-at = at-place (λ (f : Finding). f) R
 
 -- what was found is known by what was found of each
 pub findings-one : {x y : Findings} → ((f : Finding) → foundOf x f ≡ foundOf y f) → x ≡ y

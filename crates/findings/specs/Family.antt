@@ -24,7 +24,7 @@ placeOf W = 5
 
 -- the finding at a place
 abbrev pub findingAt : ℕ → Finding
-findingAt place = getD inOrder place W
+findingAt place = getD inOrder place R
 
 -- its name in ASCII: "R", "A1", "A2", "A3", "A4", "W"
 abbrev pub nameOf : Finding → List ℕ
@@ -34,6 +34,15 @@ nameOf A2 = 65 ∷ 50 ∷ []
 nameOf A3 = 65 ∷ 51 ∷ []
 nameOf A4 = 65 ∷ 52 ∷ []
 nameOf W = 87 ∷ []
+
+-- whether a cycle that shows it stands in the second of "two lent buffers": that of A4
+abbrev pub inSecond : Finding → Bool
+inSecond R = false
+inSecond A1 = false
+inSecond A2 = false
+inSecond A3 = false
+inSecond A4 = true
+inSecond W = false
 
 -- what was found of it
 abbrev pub foundOf : Findings → Finding → Found

@@ -1,8 +1,9 @@
 // The findings of document 01, what a search finds of one, and the verdict, as values.
 ghost use mathlib.Core.Path.{_≡_};
-ghost use Prim.Native.Nat.{_≤_};
-ghost use lib.ListN.{take};
-ghost use Rattle.findings.specs.Family.{findingAt, nameOf, there, foundOf};
+ghost use Prim.Native.Nat.{_<_, _≤_};
+ghost use mathlib.Core.List.{[], _∷_};
+ghost use lib.ListN.{length, take, drop};
+ghost use Rattle.findings.specs.Family.{inOrder, findingAt, inSecond, nameOf, there, foundOf};
 
 // The six findings, in the order of the report.
 pub enum Finding {
@@ -13,6 +14,15 @@ pub enum Finding {
     A4,
     W,
 }
+
+const IN_ORDER: [Finding; Finding::COUNT] = [
+    Finding::R,
+    Finding::A1,
+    Finding::A2,
+    Finding::A3,
+    Finding::A4,
+    Finding::W,
+];
 
 // What a search finds: nothing, one record, two records, or a cycle of so many, whose records stand in a lent buffer.
 pub enum Found {
@@ -48,23 +58,17 @@ impl Finding {
     // How many there are.
     pub const COUNT: usize = 6;
 
-    // The finding at a place of the report, from 0 on; past the end, the last.
+    // The finding at a place of the report, from 0 on.
     pub fn at(place: usize) -> Finding
+        requires { ⌜ place < length inOrder ⌝ }
         ensures { λ r. ⌜ r ≡ findingAt place ⌝ }
     {
-        match place {
-            0 => Finding::R,
-            1 => Finding::A1,
-            2 => Finding::A2,
-            3 => Finding::A3,
-            4 => Finding::A4,
-            5 => Finding::W,
-            _ => Finding::W,
-        }
+        IN_ORDER[place]
     }
 
+    // Its name; a byte past it is 0.
     pub fn name(self) -> Name
-        ensures { λ r. ⌜ (take (r .length) (r .bytes) ≡ nameOf self) × (r .length ≤ 2) ⌝ }
+        ensures { λ r. ⌜ (take (r .length) (r .bytes) ≡ nameOf self) × (r .length ≤ 2) × (drop (r .length) (r .bytes) ≡ drop (r .length) (0 ∷ 0 ∷ [])) ⌝ }
     {
         match self {
             Finding::R => Name {
@@ -91,6 +95,20 @@ impl Finding {
                 bytes: [87, 0],
                 length: 1,
             },
+        }
+    }
+
+    // Whether a cycle that shows it stands in the second of the two lent buffers: that of A4.
+    pub fn in_second(self) -> bool
+        ensures { λ r. ⌜ r ≡ inSecond self ⌝ }
+    {
+        match self {
+            Finding::R => false,
+            Finding::A1 => false,
+            Finding::A2 => false,
+            Finding::A3 => false,
+            Finding::A4 => true,
+            Finding::W => false,
         }
     }
 }

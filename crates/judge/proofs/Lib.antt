@@ -1,5 +1,5 @@
--- From searched matrices to the report, and from the report to the answer.
-pub mod Searching
+-- From what the searches find to the report, and from the report to the answer.
+pub mod Found
 pub mod Reporting
 pub mod Answering
 pub mod Unique

@@ -10,7 +10,7 @@ use Rattle.findings.specs.Meant.{Means, lent}
 use Rattle.findings.proofs.Family.{findings-one}
 use Rattle.findings.proofs.Meant.{means-one}
 use Rattle.refusals.specs.declared.Refusal.{Refusal}
-use Rattle.refusals.proofs.Known.{told-one}
+use Rattle.refusals.proofs.Known.{same-refusal}
 use Rattle.model.specs.Findings as model
 use Rattle.model.proofs.Unique.{one-report}
 use Rattle.table.specs.declared.Tested.the-variants as tested
@@ -51,12 +51,12 @@ never-both x y =
 
 decides-one :
     {b before₁ before₂ : List ℕ} {x y : Judged} {v w : Witnesses} → Decides b before₁ before₂ x v → Decides b before₁ before₂ y w → SameAnswer x y v w
-decides-one (wrong-length _ e) (wrong-length _ f) = refused-one (told-one (e ∙ sym f))
+decides-one (wrong-length _ e) (wrong-length _ f) = refused-one (same-refusal e f)
 decides-one (wrong-length n _) (no-room k _ _) = absurd (n k)
 decides-one (wrong-length n _) (bad-record k _ _) = absurd (n k)
 decides-one (wrong-length n _) (judged k _ _ _) = absurd (n k)
 decides-one (no-room k _ _) (wrong-length n _) = absurd (n k)
-decides-one (no-room _ _ e) (no-room _ _ f) = refused-one (told-one (e ∙ sym f))
+decides-one (no-room _ _ e) (no-room _ _ f) = refused-one (same-refusal e f)
 decides-one (no-room _ n _) (bad-record _ k _) = absurd (n k)
 decides-one (no-room _ n _) (judged _ k _ _) = absurd (n k)
 decides-one (bad-record k _ _) (wrong-length n _) = absurd (n k)

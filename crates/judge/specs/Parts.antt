@@ -5,14 +5,14 @@ use mathlib.Core.List.{List}
 use Prim.Native.Nat.{ℕ, _≤_}
 use lib.ListN.{length}
 use Rattle.laws.specs.Says.{anyBelow}
-use Rattle.laws.specs.Witness.{a-pair, LeastWitness}
+use Rattle.laws.specs.Witness.{a-pair}
 use Rattle.findings.specs.declared.Finding.{Finding}
 use Rattle.findings.specs.declared.Finding.the-variants.{A1, A4}
 use Rattle.findings.specs.declared.Findings.{Findings}
 use Rattle.findings.specs.declared.Verdict.{Verdict}
 use Rattle.findings.specs.declared.Verdict.the-variants.{Undefined, Inconsistent, Consistent}
 use Rattle.findings.specs.Family.{inOrder, findingAt, foundOf, there}
-use Rattle.findings.specs.Meant.{Means, lent}
+use Rattle.findings.specs.Meant.{lent, Finds}
 use Rattle.model.specs.Table.{Table}
 use Rattle.model.specs.Relations.{Wb0, ScStep}
 use Rattle.model.specs.Findings.{Shows}
@@ -33,11 +33,9 @@ PairShows t f p q = Shows t f (a-pair (record { first = p; second = q }))
 
 -- x is what was found of each finding of t, with the cycles in the two buffers
 pub record FoundAll (t : Table) (before₁ after₁ before₂ after₂ : List ℕ) (x : Findings) : Type 0 where
-  pub witness : Witnesses
-  pub least : (f : Finding) → LeastWitness (Shows t f) (witness f)
-  pub means : (f : Finding) → Means (foundOf x f) (witness f)
-  pub first : after₁ ≡ lent (witness A1) before₁
-  pub second : after₂ ≡ lent (witness A4) before₂
+  pub each : (f : Finding) → Finds (Shows t f) (foundOf x f)
+  pub first : after₁ ≡ lent (each A1 .witness) before₁
+  pub second : after₂ ≡ lent (each A4 .witness) before₂
 
 -- whether any finding has a witness
 unfoldable pub anyFound : Findings → Bool

@@ -7,3 +7,4 @@ pub mod Witness
 pub mod Passed
 pub mod Walks
 pub mod Renumbered
+pub mod Fits

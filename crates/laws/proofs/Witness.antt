@@ -52,13 +52,3 @@ least-pair = least-sorted a-pair (λ a b. pairs) (λ a. pair-with) pair-back
 
 pub least-cycle : {P : List ℕ → Type 0} {x : Option (List ℕ)} → Least CycleAtMost P x → LeastWitness (CycleWith P) (sorted a-cycle x)
 least-cycle = least-sorted a-cycle (λ a b. cycles) (λ a. cycle-with) cycle-back
-
--- what a pair shows; it is no record and no cycle
-pub pair-shows : {R : ℕ → ℕ → Type 0} {p : Pair} → PairWith R (a-pair p) → R (p .first) (p .second)
-pair-shows (pair-with s) = s
-
-pub pair-no-record : {P : ℕ → Type 0} {p : Pair} → ¬ RecordWith P (a-pair p)
-pair-no-record s = elim s [ ]
-
-pub pair-no-cycle : {P : List ℕ → Type 0} {p : Pair} → ¬ CycleWith P (a-pair p)
-pair-no-cycle s = elim s [ ]

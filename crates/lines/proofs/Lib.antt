@@ -1,7 +1,9 @@
--- Pieces of text, one after another.
+-- Pieces of text, what was found read again, how long the texts can be, and the text of an answer.
 pub mod Pieces
+pub mod Cycles
+pub mod Reading
 pub mod Lengths
-pub mod Telling
 pub mod Answering
+pub mod Telling
 pub mod Unique
 pub mod Written

@@ -1,9 +1,9 @@
 -- Pieces of text, one after another: room for each, and what they make together.
-use mathlib.Core.Path.{_≡_}
-use mathlib.Core.List.{List, [], _∷_, _++_}
-use Prim.Native.Nat.{ℕ, _+_, _≤_}
+use mathlib.Core.Path.{_≡_, subst}
+use mathlib.Core.List.{List, _++_}
+use Prim.Native.Nat.{ℕ, _+_}
 use native.Mathlib.Omega.{arith}
-use lib.ListN.{length, length-append}
+use lib.ListN.{length-append}
 use Rattle.text.specs.Text.{Written}
 use Rattle.text.proofs.Laws.{written-length, written-then}
 use Rattle.lines.specs.Room.{Room}
@@ -14,6 +14,10 @@ room-front out at s u h = omega (arith, length-append s u)
 pub room-back : {out : List ℕ} {at : ℕ} {s mid : List ℕ} {m : ℕ} (u : List ℕ) → Room out at (s ++ u) → Written out at s mid m → Room mid m u
 room-back {out} {at} {s} u h w =
     omega (arith, length-append s u, w .next, written-length (room-front out at s u h) w)
+
+-- the same value under another name
+pub room-as : {A : Type 0} (text : A → List ℕ) (out : List ℕ) (at : ℕ) {x y : A} → x ≡ y → Room out at (text x) → Room out at (text y)
+room-as text out at e h = subst (λ x. Room out at (text x)) e h
 
 -- three pieces
 module _ (out : List ℕ) (at : ℕ) (s u v : List ℕ) (room : Room out at (s ++ (u ++ v))) where

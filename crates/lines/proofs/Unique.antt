@@ -1,18 +1,17 @@
 -- A table has one text, and writing it has one result.
-use mathlib.Core.Path.{_≡_, refl, sym, ap, ap₂, subst, _∙_}
+use mathlib.Core.Path.{_≡_, sym, ap, ap₂, _∙_}
 use mathlib.Core.List.{List, _++_}
-use Prim.Native.Nat.{ℕ, _<_, _≤_}
+use Prim.Native.Nat.{ℕ}
 use native.Mathlib.Omega.{arith}
 use lib.ListN.{length, drop}
 use Rattle.refusals.specs.declared.Refusal.{Refusal}
-use Rattle.refusals.specs.Numbers.{numberOf, placeOf}
-use Rattle.model.specs.Findings.{Report, Reports}
+use Rattle.refusals.specs.Numbers.{told}
+use Rattle.refusals.proofs.Known.{same-refusal}
+use Rattle.model.specs.Findings.{Report}
 use Rattle.model.proofs.Unique.{one-report}
-use Rattle.table.specs.declared.Tested.{Tested}
 use Rattle.table.specs.declared.Tested.the-variants as tested
 use Rattle.table.specs.Events.{eventsOf}
-use Rattle.table.specs.Test.{TestAnswer}
-use Rattle.table.proofs.Unique.{refusal-one, test-one}
+use Rattle.table.proofs.Unique.{test-one}
 use Rattle.lines.specs.Lines.{reportText, refusedText}
 use Rattle.lines.specs.declared.Wrote.{Wrote}
 use Rattle.lines.specs.declared.Wrote.the-variants.{Refused, Length}
@@ -23,33 +22,31 @@ pub record OneResult (x y : Wrote) (after after′ : List ℕ) : Type 0 where
   pub result : x ≡ y
   pub bytes : after ≡ after′
 
+-- no table is both refused and sound
+apart : {A : Type 0} {r : Refusal} {n : ℕ} → tested.Refused r ≡ tested.Sound n → A
+apart e = absurd (let z : _≡_ {A = ℕ} 0 1 = cc in omega arith)
+
 module _ {b : List ℕ} where
   pub text-one : {s u : List ℕ} → TextOf b s → TextOf b u → s ≡ u
   text-one (TextOf.refused {r = r} x) (TextOf.refused {r = q} y) =
       let e : r ≡ q = same (test-one x y) in
-      ap (λ (z : Refusal). refusedText (numberOf z) (placeOf z)) e
+      ap (λ (z : Refusal). refusedText (told z)) e
     where
       same : tested.Refused r ≡ tested.Refused q → r ≡ q
       same e = cc
-  text-one (TextOf.refused {r = r} x) (TextOf.reported {n = n} y _) = absurd (apart (test-one x y))
-    where
-      apart : tested.Refused r ≡ tested.Sound n → ⊥
-      apart e = let z : _≡_ {A = ℕ} 0 1 = cc in omega arith
-  text-one (TextOf.reported {n = n} x _) (TextOf.refused {r = r} y) = absurd (apart (test-one x y))
-    where
-      apart : tested.Sound n ≡ tested.Refused r → ⊥
-      apart e = let z : _≡_ {A = ℕ} 0 1 = cc in omega arith
+  text-one (TextOf.refused x) (TextOf.reported y _) = apart (test-one x y)
+  text-one (TextOf.reported x _) (TextOf.refused y) = apart (test-one y x)
   text-one (TextOf.reported {n = n} {x = x} t p) (TextOf.reported {n = m} {x = y} u q) =
-      ap₂ reportText (same (test-one t u)) (one-report (eventsOf b) x y p q)
+      ap₂ (λ (k : ℕ) (z : Report). reportText k (z .witness) (z .verdict)) (same (test-one t u)) (one-report (eventsOf b) x y p q)
     where
       same : tested.Sound n ≡ tested.Sound m → n ≡ m
       same e = cc
 
   pub write-one : {before after after′ : List ℕ} {x y : Wrote} → WriteAnswer b before after x → WriteAnswer b before after′ y → OneResult x y after after′
-  write-one (WriteAnswer.no-room {r = r} _ _ k p e) (WriteAnswer.no-room {r = q} _ _ k′ p′ e′) =
-      record { result = ap Refused (refusal-one r q (k ∙ sym k′) (p ∙ sym p′)); bytes = e ∙ sym e′ }
-  write-one (WriteAnswer.no-room t h _ _ _) (WriteAnswer.written u e l _) = absurd (omega (arith, ap length (text-one t u)))
-  write-one (WriteAnswer.written t e l _) (WriteAnswer.no-room u h _ _ _) = absurd (omega (arith, ap length (text-one t u)))
+  write-one (WriteAnswer.no-room _ _ k e) (WriteAnswer.no-room _ _ l e′) =
+      record { result = ap Refused (same-refusal k l); bytes = e ∙ sym e′ }
+  write-one (WriteAnswer.no-room t h _ _) (WriteAnswer.written u e l _) = absurd (omega (arith, ap length (text-one t u)))
+  write-one (WriteAnswer.written t e l _) (WriteAnswer.no-room u h _ _) = absurd (omega (arith, ap length (text-one t u)))
   write-one {before} (WriteAnswer.written {text = s} {len = m} t e _ a) (WriteAnswer.written {text = u} {len = n} v f _ c) =
       let w = text-one t v in
       let same : m ≡ n = e ∙ ap length w ∙ sym f in

@@ -4,7 +4,7 @@ use mathlib.Core.List.{List, _++_}
 use Prim.Native.Nat.{ℕ, _<_, _≤_}
 use lib.ListN.{length, take, drop}
 use Rattle.refusals.specs.declared.Refusal.{Refusal}
-use Rattle.refusals.specs.Numbers.{numberOf, placeOf}
+use Rattle.refusals.specs.Numbers.{at, told}
 use Rattle.model.specs.Findings.{Report, Reports}
 use Rattle.table.specs.declared.Tested.the-variants as tested
 use Rattle.table.specs.Events.{eventsOf}
@@ -15,8 +15,8 @@ use Rattle.lines.specs.declared.Wrote.the-variants.{Refused, Length}
 
 -- the text of the table b: the line of its refusal, or its report
 pub data TextOf (b : List ℕ) : List ℕ → Type 0 where
-  refused : {r : Refusal} → TestAnswer b (tested.Refused r) → TextOf b (refusedText (numberOf r) (placeOf r))
-  reported : {n : ℕ} {x : Report} → TestAnswer b (tested.Sound n) → Reports (eventsOf b) x → TextOf b (reportText n x)
+  refused : {r : Refusal} → TestAnswer b (tested.Refused r) → TextOf b (refusedText (told r))
+  reported : {n : ℕ} {x : Report} → TestAnswer b (tested.Sound n) → Reports (eventsOf b) x → TextOf b (reportText n (x .witness) (x .verdict))
 
 -- the text stands at the front of a buffer
 pub record TextAt (b out : List ℕ) (len : ℕ) : Type 0 where
@@ -25,5 +25,5 @@ pub record TextAt (b out : List ℕ) (len : ℕ) : Type 0 where
 
 -- "11 last, by what it would write; bytes past that stay. A refusal changes nothing lent."
 pub data WriteAnswer (b before after : List ℕ) : Wrote → Type 0 where
-  no-room : {text : List ℕ} {r : Refusal} → TextOf b text → length before < length text → numberOf r ≡ 11 → placeOf r ≡ 0 → after ≡ before → WriteAnswer b before after (Refused r)
+  no-room : {text : List ℕ} {r : Refusal} → TextOf b text → length before < length text → told r ≡ at 11 0 → after ≡ before → WriteAnswer b before after (Refused r)
   written : {text : List ℕ} {len : ℕ} → TextOf b text → len ≡ length text → len ≤ length before → after ≡ text ++ drop len before → WriteAnswer b before after (Length len)

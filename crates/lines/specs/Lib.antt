@@ -1,5 +1,5 @@
 -- The report as text.
 pub mod Lines
 pub mod Room
-pub mod Told
+pub mod Witnesses
 pub mod Answer

@@ -1,15 +1,15 @@
--- Room for a text, and for the records of a cycle.
+-- Room for a text, and for the longest.
 use mathlib.Core.List.{List}
-use Prim.Native.Nat.{ℕ, _+_, _≤_}
+use Prim.Native.Nat.{ℕ, _+_, _*_, _≤_}
 use lib.ListN.{length}
-use Rattle.cycle.specs.declared.Loop.{Loop}
-use Rattle.cycle.specs.declared.Loop.the-variants.{Cycle, Nothing}
+use Rattle.limits.specs.Limit.{limit}
+use Rattle.findings.specs.Family.{inOrder}
 
 -- the text has room from `at` on
 abbrev pub Room : List ℕ → ℕ → List ℕ → Type 0
 Room out at text = at + length text ≤ length out
 
--- a cycle's records are all there
-abbrev pub CycleRoom : Loop → List ℕ → Type 0
-CycleRoom (Cycle len) records = len ≤ length records
-CycleRoom Nothing records = Unit {0}
+-- no text is longer: the lines of the count and of the verdict, and for each finding its name, `none` or a space and three digits for each record, and
+-- the line end
+abbrev pub longest : ℕ
+longest = 32 + length inOrder * (8 + 4 * limit)

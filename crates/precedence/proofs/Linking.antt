@@ -11,12 +11,9 @@ use Rattle.laws.proofs.Says.{says-no, says-iff}
 use Rattle.matrix.specs.Matrix.{Square}
 use Rattle.model.specs.Table.{Table, Parent}
 use Rattle.model.specs.WellFormed.{WellFormed}
-use Rattle.model.proofs.Fields.{absent-to}
+use Rattle.model.proofs.Fields.{absent-to, one-end}
 use Rattle.model.proofs.Facts.{parent-earlier}
 use Rattle.precedence.specs.Links.{Linked, Leads, LinkPlace}
-
-pub one-end : {link : Link} {s r : ℕ} → link ≡ To s → link ≡ To r → r ≡ s
-one-end e f = cc
 
 module _ {link : Link} {P : ℕ → Type 0} where
   pub to-linked : {s : ℕ} → link ≡ To s → P s → Linked link P

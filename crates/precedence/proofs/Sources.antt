@@ -6,10 +6,10 @@ use Rattle.events.specs.declared.Link.the-variants.{Absent, To}
 use Rattle.model.specs.Table.{Table, Acquiring, Releasing}
 use Rattle.model.specs.Relations.{Sw}
 use Rattle.model.specs.WellFormed.{WellFormed}
-use Rattle.model.proofs.Fields.{absent-to}
+use Rattle.model.proofs.Fields.{absent-to, one-end}
 use Rattle.model.proofs.Facts.{has-source, source-is-earlier-write}
 use Rattle.precedence.specs.Links.{Leads}
-use Rattle.precedence.proofs.Linking.{Falls, one-end}
+use Rattle.precedence.proofs.Linking.{Falls}
 
 module _ {t : Table} {b : ℕ} {link : Link} where
   pub sw-falls : WellFormed t → Leads link (λ s. Sw t s b) → Falls link b

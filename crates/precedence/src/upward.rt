@@ -8,6 +8,7 @@ ghost use Rattle.table.specs.Events.{eventsOf};
 ghost use Rattle.facts.specs.Sound.{Counted};
 ghost use Rattle.precedence.specs.Upward.{relationOf, RowsBefore};
 
+// The relations whose rows follow from the rows before them.
 enum Upward {
     Po,
     Conflict,

@@ -1,10 +1,7 @@
-// The four kinds of question: each is read whole, answered, and followed by an empty line.
-use crate::event::record_of;
-use crate::event::word_of;
-use crate::say::say;
-use crate::say::say_bytes;
-use crate::say::say_number;
-use crate::say::say_refusal;
+// The four kinds of question: each is read whole and answered; each part of an answer ends its line, and an empty line ends each answer.
+use crate::input::filled;
+use crate::input::next_selection;
+use crate::input::next_word;
 use edit::appending::Appended;
 use edit::appending::append;
 use edit::cutting::CutDown;
@@ -12,6 +9,10 @@ use edit::cutting::cut;
 use events::Record;
 use lines::Wrote;
 use lines::write_answer;
+use programs::raw::record_of;
+use programs::say;
+use programs::say::Form;
+use record::places::SIZE;
 use table::FetchTest;
 use table::fetch;
 use table::refusal_of_fetch;
@@ -25,31 +26,24 @@ const FILL: u8 = 0xA5;
 // Room for any report.
 const REPORT: usize = 128 + 8 * limits::LIMIT;
 
-// Fills the bytes from standard input; whether it could.
-fn filled(bytes: &mut [u8]) -> bool {
-    let got = io::read_full(libc::STDIN_FILENO, bytes);
-    bytes.len() <= got
+fn end_line() -> bool {
+    say::text(b"\n")
 }
 
-// Two bytes, low byte first; one above every length where there are none.
-fn next_word() -> usize {
-    let mut two = [0u8; 2];
-    if io::read_full(libc::STDIN_FILENO, &mut two) < 2 {
-        return 65536;
-    }
-    word_of(two[0], two[1]) as usize
+fn say_hex(bytes: &[u8]) -> bool {
+    say::bytes(Form::Hex, b"", bytes) & end_line()
 }
 
 fn say_report(table: &[u8]) -> bool {
     let mut out = [0u8; REPORT];
     match write_answer(table, &mut out) {
-        Wrote::Length(len) => say(&out[..len]),
-        Wrote::Refused(r) => say_refusal(r),
+        Wrote::Length(len) => say::text(&out[..len]),
+        Wrote::Refused(r) => say::refusal(r) & end_line(),
     }
 }
 
 fn judge_filled(table: &mut [u8]) -> bool {
-    filled(table) & say_report(table) & say(b"\n")
+    filled(table) & say_report(table) & end_line()
 }
 
 pub fn take_judging() -> bool {
@@ -63,30 +57,17 @@ pub fn take_judging() -> bool {
 
 fn say_cut(table: &[u8], selection: u64, out: &mut [u8]) -> bool {
     match cut(table, selection, out) {
-        CutDown::Kept(k) => say_number(b"cut ", k),
-        CutDown::Refused(r) => say_refusal(r),
+        CutDown::Kept(k) => say::number(b"cut ", k) & end_line(),
+        CutDown::Refused(r) => say::refusal(r) & end_line(),
     }
 }
 
 fn cut_filled(table: &mut [u8], selection: u64, out: &mut [u8]) -> bool {
-    filled(table) & say_cut(table, selection, out) & say_bytes(out) & say(b"\n")
-}
-
-fn selection_of(a: u16, b: u16, c: u16, d: u16) -> u64 {
-    (a as u64) + 65536 * (b as u64) + 4294967296 * (c as u64) + 281474976710656 * (d as u64)
+    filled(table) & say_cut(table, selection, out) & say_hex(out) & end_line()
 }
 
 pub fn take_cut() -> bool {
-    let mut bits = [0u8; 8];
-    if io::read_full(libc::STDIN_FILENO, &mut bits) < 8 {
-        return false;
-    }
-    let selection = selection_of(
-        word_of(bits[0], bits[1]),
-        word_of(bits[2], bits[3]),
-        word_of(bits[4], bits[5]),
-        word_of(bits[6], bits[7]),
-    );
+    let selection = next_selection();
     let size = next_word();
     let len = next_word();
     if MOST < size {
@@ -102,19 +83,19 @@ pub fn take_cut() -> bool {
 
 fn say_append(buffer: &mut [u8], used: usize, new: Record) -> bool {
     match append(buffer, used, new) {
-        Appended::Count(k) => say_number(b"count ", k),
-        Appended::Refused(r) => say_refusal(r),
+        Appended::Count(k) => say::number(b"count ", k) & end_line(),
+        Appended::Refused(r) => say::refusal(r) & end_line(),
     }
 }
 
 fn append_filled(buffer: &mut [u8], used: usize, new: Record) -> bool {
-    filled(buffer) & say_append(buffer, used, new) & say_bytes(buffer) & say(b"\n")
+    filled(buffer) & say_append(buffer, used, new) & say_hex(buffer) & end_line()
 }
 
 pub fn take_append() -> bool {
     let used = next_word();
-    let mut new = [0u8; 16];
-    if io::read_full(libc::STDIN_FILENO, &mut new) < 16 {
+    let mut new = [0u8; SIZE];
+    if !filled(&mut new) {
         return false;
     }
     let len = next_word();
@@ -125,15 +106,15 @@ pub fn take_append() -> bool {
     append_filled(&mut buffer[0..len], used, record_of(&new))
 }
 
-fn say_fetch_refusal(table: &[u8], asked: usize) -> bool {
+fn say_fetch_test(table: &[u8], asked: usize) -> bool {
     match refusal_of_fetch(table, asked) {
-        FetchTest::Given => say(b"given\n"),
-        FetchTest::Refused(r) => say_refusal(r),
+        FetchTest::Given => say::text(b"given\n"),
+        FetchTest::Refused(r) => say::refusal(r) & end_line(),
     }
 }
 
 fn fetch_filled(table: &mut [u8], asked: usize) -> bool {
-    filled(table) & say_bytes(fetch(table, asked)) & say_fetch_refusal(table, asked) & say(b"\n")
+    filled(table) & say_hex(fetch(table, asked)) & say_fetch_test(table, asked) & end_line()
 }
 
 pub fn take_fetch() -> bool {

@@ -1,17 +1,17 @@
 // Answers many questions, one after another, for the comparison with the second judge (second/README.md has their form).
 mod ask;
-mod event;
-mod say;
+mod input;
 
 use crate::ask::take_append;
 use crate::ask::take_cut;
 use crate::ask::take_fetch;
 use crate::ask::take_judging;
+use crate::input::filled;
 
 // The next question, if there is one; whether to go on.
 fn take_next() -> bool {
     let mut kind = [0u8; 1];
-    if io::read_full(libc::STDIN_FILENO, &mut kind) < 1 {
+    if !filled(&mut kind) {
         return false;
     }
     let k = kind[0];

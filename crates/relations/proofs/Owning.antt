@@ -17,13 +17,14 @@ use Rattle.model.proofs.Facts.{has-source, source-is-earlier-write}
 use Rattle.model.proofs.Within.{hb-within}
 use Rattle.table.specs.Events.{eventsOf}
 use Rattle.matrix.specs.Matrix.{Square, Holds, Cell, IsMatrix, Filled, Made}
-use Rattle.matrix.specs.Relations.{Owners}
+use Rattle.matrix.specs.Derived.{Owners}
 use Rattle.matrix.proofs.Cells.{rows-iff, of-cell, cell-of, to-cell, bits-of}
-use Rattle.relations.specs.Asked.{Counted, Given}
+use Rattle.facts.specs.Sound.{Counted}
+use Rattle.facts.proofs.Records.{formed, within-count, few}
+use Rattle.relations.specs.Given.{Given}
 use Rattle.relations.specs.Owners.{noNumber, numberIf, linkNumber, ownNumber, sourceNumber, EitherOwns, Handing}
-use Rattle.relations.specs.Relations.{OwnerOf, BeforeOwned, OwnersBefore}
+use Rattle.relations.specs.Between.{OwnerOf, BeforeOwned, OwnersBefore}
 use Rattle.relations.proofs.Making.{made-room, given-matrix}
-use Rattle.relations.proofs.Counting.{formed, within-count, few}
 
 number-if : (w : Bool) (v b : ℕ) → b < noNumber → numberIf w v ≡ b → T w × (v ≡ b)
 number-if true v b l e = (tt, e)

@@ -3,37 +3,25 @@ use mathlib.Core.Path.{subst}
 use mathlib.Core.Bool.{Bool, not, _&&_, _||_}
 use mathlib.Core.List.{List}
 use mathlib.Core.Logic.{_⊎_, inl, inr, ⊎-elim}
-use mathlib.Core.Option.{Option}
 use Prim.Native.Nat.{ℕ, _<_}
-use native.Mathlib.Omega.{arith}
 use Rattle.laws.specs.Says.{Says}
-use Rattle.laws.specs.Least.{LeastNumber}
 use Rattle.laws.proofs.Says.{says-not, says-and, says-or, says-iff}
 use Rattle.model.specs.Table.{Table, Source, NoSource}
-use Rattle.model.specs.Relations.{Hb, EarlierRace, WriteBefore, SomeEarlierRace, SomeWriteBefore, Justified, with-source, no-write-before, races-earlier}
-use Rattle.model.specs.Findings.{ShowsR}
+use Rattle.model.specs.Relations.{Hb, SomeEarlierRace, SomeWriteBefore, Justified, with-source, no-write-before, races-earlier}
 use Rattle.model.proofs.Fields.{absent-to}
-use Rattle.model.proofs.Facts.{one-source, read-inside}
+use Rattle.model.proofs.Facts.{one-source}
 use Rattle.model.proofs.Within.{hb-within, race-within}
 use Rattle.table.specs.Events.{eventsOf}
-use Rattle.matrix.specs.Matrix.{Cell}
-use Rattle.matrix.specs.Found.{Flag}
-use Rattle.relations.specs.Asked.{Counted, Given}
-use Rattle.relations.specs.Reads.{Flagged}
-use Rattle.relations.proofs.Counting.{formed, within-count}
-use Rattle.relations.proofs.Flags.{says-some, flagged-least}
+use Rattle.facts.specs.Sound.{Counted}
+use Rattle.facts.proofs.Records.{formed, within-count}
+use Rattle.relations.specs.declared.reads.Sought.{Sought}
+use Rattle.relations.specs.declared.reads.Sought.the-variants as sought
+use Rattle.relations.specs.Reads.{soughtOf}
 
-module _ {bytes : List ℕ} {n : ℕ} (counted : Counted bytes n) where
-  module _ {r : ℕ} {m : List ℕ} {x : Bool} (inside : r < n) where
-    pub some-race : Given n (EarlierRace (eventsOf bytes)) m → Says x ((a : ℕ) × Cell n m a r) → Says x (SomeEarlierRace (eventsOf bytes) r)
-    some-race given = says-some given (λ w z. within-count counted (race-within (formed counted)) .left (z .race)) inside
-
-    pub some-write : Given n (WriteBefore (eventsOf bytes)) m → Says x ((a : ℕ) × Cell n m a r) → Says x (SomeWriteBefore (eventsOf bytes) r)
-    some-write given = says-some given (λ w z. within-count counted (hb-within (formed counted)) .left (z .before)) inside
-
-  -- the least flag is the witness of R
-  pub least-unjustified : {m m′ : List ℕ} {x : Option ℕ} → Flagged n (ShowsR (eventsOf bytes)) m m′ → LeastNumber (Flag n m′) x → LeastNumber (ShowsR (eventsOf bytes)) x
-  least-unjustified = flagged-least (λ r z. omega (arith, counted .all, read-inside (formed counted) r (z .reads)))
+-- only records are sought
+pub sought-low : (which : Sought) {bytes : List ℕ} {n : ℕ} → Counted bytes n → (r w : ℕ) → soughtOf which (eventsOf bytes) w r → w < n
+sought-low sought.Racing counted r w z = within-count counted (race-within (formed counted)) .left (z .race)
+sought-low sought.Before counted r w z = within-count counted (hb-within (formed counted)) .left (z .before)
 
 module _ {t : Table} {r : ℕ} {raced : Bool} (by-race : Says raced (SomeEarlierRace t r)) where
   -- "A read with a source"

@@ -3,11 +3,10 @@ use mathlib.Core.Path.{_≡_, sym, subst, _∙_}
 use mathlib.Core.Bool.{Bool, false}
 use mathlib.Core.List.{List}
 use Prim.Native.Nat.{ℕ, _<_}
-use lib.Dec.{T}
 use Rattle.events.specs.declared.Link.{Link}
 use Rattle.events.specs.declared.Link.the-variants.{To}
 use Rattle.laws.specs.Says.{Says}
-use Rattle.laws.proofs.Says.{says-T, says-no, says-iff}
+use Rattle.laws.proofs.Says.{says-no, says-iff}
 use Rattle.model.specs.Table.{Table, Source, NoSource}
 use Rattle.model.specs.Relations.{Conflict, Hb}
 use Rattle.model.specs.Findings.{ShowsA3}
@@ -17,21 +16,18 @@ use Rattle.model.proofs.Within.{source-within}
 use Rattle.table.specs.Events.{eventsOf}
 use Rattle.matrix.specs.Matrix.{Cell}
 use Rattle.matrix.proofs.Cells.{of-cell, cell-of, says-cell}
-use Rattle.relations.specs.Asked.{Counted, Two, Given}
-use Rattle.relations.specs.Relations.{FromSource}
-use Rattle.relations.proofs.Counting.{formed, within-count}
-
--- an answer that is a word on a record
-pub says-is : {b c : Bool} → b ≡ c → Says b (T c)
-says-is {c = c} e = subst (λ (x : Bool). Says x (T c)) (sym e) (says-T c)
+use Rattle.facts.specs.Sound.{Counted, Placed}
+use Rattle.facts.proofs.Records.{formed, within-count}
+use Rattle.relations.specs.Given.{Given}
+use Rattle.relations.specs.Between.{FromSource}
 
 -- an answer of a matrix, of two records and of the same two the other way round
-module _ {n a b : ℕ} {R : ℕ → ℕ → Type 0} {bytes m : List ℕ} {r : Bool} (two : Two bytes n a b) (given : Given n R m) where
+module _ {n a b : ℕ} {R : ℕ → ℕ → Type 0} {bytes m : List ℕ} {r : Bool} (placed : Placed bytes n a b) (given : Given n R m) where
   pub told : Says r (Cell n m a b) → Says r (R a b)
-  told = says-cell (given .holds) (two .first) (two .second)
+  told = says-cell (given .holds) (placed .col) (placed .row)
 
   pub told-back : Says r (Cell n m b a) → Says r (R b a)
-  told-back = says-cell (given .holds) (two .second) (two .first)
+  told-back = says-cell (given .holds) (placed .row) (placed .col)
 
 -- a link that is that of record r's source
 module _ {bytes : List ℕ} {n : ℕ} (r : ℕ) {link : Link} (counted : Counted bytes n) (is : link ≡ eventsOf bytes .at r .source) where
@@ -52,11 +48,11 @@ module _ {t : Table} {R : ℕ → ℕ → Type 0} {r b : ℕ} where
 
 -- an answer of a matrix on the source of a record
 pub told-of-source :
-    {n r b : ℕ} {R : ℕ → ℕ → Type 0} {bytes m : List ℕ} {x : Bool} → Two bytes n r b → Given n R m → Says x (FromSource (eventsOf bytes) (Cell n m) r b) → Says x (FromSource (eventsOf bytes) R r b)
-told-of-source two given =
-    let low = within-count (two .table) (source-within (formed (two .table))) in
+    {n r b : ℕ} {R : ℕ → ℕ → Type 0} {bytes m : List ℕ} {x : Bool} → Placed bytes n r b → Given n R m → Says x (FromSource (eventsOf bytes) (Cell n m) r b) → Says x (FromSource (eventsOf bytes) R r b)
+told-of-source placed given =
+    let low = within-count (placed .table) (source-within (formed (placed .table))) in
     says-iff (λ z. record { s = z .s; source = z .source; related = of-cell (given .holds) (z .related) })
-    (λ z. record { s = z .s; source = z .source; related = cell-of (given .holds) (low .left (z .source)) (two .second) (z .related) })
+    (λ z. record { s = z .s; source = z .source; related = cell-of (given .holds) (low .left (z .source)) (placed .row) (z .related) })
 
 -- A3, asked of the later record's source
 pub says-A3 :

@@ -1,6 +1,8 @@
 -- What the makers of a sound table's matrices ask and promise.
-pub mod Asked
+pub mod Given
+pub mod Between
+pub mod FromTwo
+pub mod Kept
 pub mod Owners
 pub mod Reads
-pub mod Relations
-pub mod Stored
+pub mod Worked

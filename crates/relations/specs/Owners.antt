@@ -9,7 +9,9 @@ use Rattle.events.specs.declared.Link.the-variants.{Absent, To}
 use Rattle.events.specs.Words.{isWrite}
 use Rattle.model.specs.Table.{Table}
 use Rattle.matrix.specs.Matrix.{Square, IsMatrix}
-use Rattle.matrix.specs.Relations.{Owned}
+use Rattle.matrix.specs.Derived.{Owned, Gathered, Scattered}
+use Rattle.relations.specs.declared.writes.End.{End}
+use Rattle.relations.specs.declared.writes.End.the-variants as end
 
 -- no record has this number
 abbrev pub noNumber : ℕ
@@ -34,6 +36,11 @@ sourceNumber t v = linkNumber (t .at v .source)
 -- of two columns of owners, one says that b owns something that has P
 abbrev pub EitherOwns : List ℕ → List ℕ → (ℕ → Type 0) → ℕ → Type 0
 EitherOwns own sources P b = Owned own P b ⊎ Owned sources P b
+
+-- what R relates, handed on to the owners of a column, at one end of the step
+abbrev pub HandedBy : End → List ℕ → (ℕ → ℕ → Type 0) → ℕ → ℕ → Type 0
+HandedBy end.Earlier = Scattered
+HandedBy end.Later = Gathered
 
 -- two columns of owners, a matrix, and room for another
 pub record Handing (n : ℕ) (own sources x out : List ℕ) : Type 0 where

@@ -1,20 +1,32 @@
--- What it takes to judge the reads of a sound table, and how the answer is kept.
+-- What tells whether a read is justified: the writes that are looked for, and the matrices that tell of them.
 use mathlib.Core.List.{List}
 use Prim.Native.Nat.{ℕ, _<_}
-use lib.ListN.{getD}
-use Rattle.model.specs.Relations.{Hb, EarlierRace, WriteBefore}
+use Rattle.model.specs.Table.{Table}
+use Rattle.model.specs.Relations.{Hb, Race, EarlierRace, WriteBefore}
 use Rattle.table.specs.Events.{eventsOf}
-use Rattle.matrix.specs.Matrix.{Bit, Outside}
-use Rattle.relations.specs.Asked.{Counted, Given}
+use Rattle.facts.specs.Sound.{Counted}
+use Rattle.relations.specs.declared.reads.Sought.{Sought}
+use Rattle.relations.specs.declared.reads.Sought.the-variants as sought
+use Rattle.relations.specs.Given.{Given}
 
--- its hb, the earlier writes that race with each read, the writes before each read
-pub record Judging (bytes : List ℕ) (n : ℕ) (hb early before : List ℕ) : Type 0 where
+abbrev pub soughtOf : Sought → Table → ℕ → ℕ → Type 0
+soughtOf sought.Racing = EarlierRace
+soughtOf sought.Before = WriteBefore
+
+-- what the matrix holds that tells of them
+abbrev pub toldBy : Sought → Table → ℕ → ℕ → Type 0
+toldBy sought.Racing = Race
+toldBy sought.Before = Hb
+
+-- a record of a sound table, and the matrix
+pub record Seeking (which : Sought) (bytes : List ℕ) (n r : ℕ) (m : List ℕ) : Type 0 where
   pub table : Counted bytes n
-  pub by-hb : Given n (Hb (eventsOf bytes)) hb
-  pub by-race : Given n (EarlierRace (eventsOf bytes)) early
-  pub by-write : Given n (WriteBefore (eventsOf bytes)) before
+  pub inside : r < n
+  pub given : Given n (toldBy which (eventsOf bytes)) m
 
--- the first n bytes say which numbers have P, and the rest is as it was
-pub record Flagged (n : ℕ) (P : ℕ → Type 0) (m m′ : List ℕ) : Type 0 where
-  pub rest : Outside 0 n m m′
-  pub flag : (r : ℕ) → r < n → Bit (P r) (getD m′ r 0)
+-- a record of a sound table, its hb and its races
+pub record Reading (bytes : List ℕ) (n r : ℕ) (hb race : List ℕ) : Type 0 where
+  pub table : Counted bytes n
+  pub inside : r < n
+  pub by-hb : Given n (Hb (eventsOf bytes)) hb
+  pub by-race : Given n (Race (eventsOf bytes)) race

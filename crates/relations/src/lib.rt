@@ -1,8 +1,44 @@
-// The relations of a sound table that follow from po, hb and conflict, as matrices.
+// The relations of a sound table as matrices: each has n rows of n bytes, and row b, column a says whether a is related to b.
 mod cell;
+mod from_two;
+mod kept;
 pub mod race;
 pub mod reads;
-pub mod sequential;
-mod shown;
-pub mod stored;
-pub mod writes;
+mod sequential;
+pub mod shown;
+mod writes;
+
+use crate::race::race_matrix;
+use crate::sequential::sc_matrix;
+use crate::writes::wb_matrix;
+use crate::writes::wb0_matrix;
+use precedence::upward::conflict_matrix;
+use precedence::upward::hb_matrix;
+use precedence::upward::po_matrix;
+ghost use Rattle.table.specs.Events.{eventsOf};
+ghost use Rattle.facts.specs.Sound.{Counted};
+ghost use Rattle.relations.specs.Worked.{Lent, Worked};
+
+// The relations in document 01's order: po, cf, hb (with sw), race, wb0, wb, and the steps among SC records (with fr, po≠ and hbsc).
+pub fn make_all(
+    table: &[u8],
+    n: usize,
+    po: &mut [u8],
+    cf: &mut [u8],
+    hb: &mut [u8],
+    race: &mut [u8],
+    wb0: &mut [u8],
+    wb: &mut [u8],
+    sc: &mut [u8],
+)
+    requires { ⌜ Counted (now table) n × Lent n (now po) (now cf) (now hb) (now race) (now wb0) (now wb) (now sc) ⌝ }
+    ensures { λ _. ⌜ Worked (eventsOf (now (table .entry))) n (now (po .entry)) (now (po .exit)) (now (cf .entry)) (now (cf .exit)) (now (hb .entry)) (now (hb .exit)) (now (race .entry)) (now (race .exit)) (now (wb0 .entry)) (now (wb0 .exit)) (now (wb .entry)) (now (wb .exit)) (now (sc .entry)) (now (sc .exit)) ⌝ }
+{
+    po_matrix(table, n, po);
+    conflict_matrix(table, n, cf);
+    hb_matrix(table, n, hb);
+    race_matrix(table, hb, cf, n, race);
+    wb0_matrix(table, hb, n, wb0);
+    wb_matrix(wb0, n, wb);
+    sc_matrix(table, po, hb, wb, n, sc);
+}

@@ -1,6 +1,6 @@
 // wb0 and wb as matrices: hb handed on to the writes that own its records.
-use crate::stored::Stored;
-use crate::stored::fill;
+use crate::kept::Kept;
+use crate::kept::keep;
 use events::Link;
 use facts::source;
 use facts::writes;
@@ -11,22 +11,24 @@ use matrix::owner::scatter;
 use matrix::whole::clear;
 use matrix::whole::copy_to;
 ghost use mathlib.Core.Path.{_≡_};
-ghost use Prim.Native.Nat.{_<_, _≤_};
+ghost use mathlib.Core.List.{List};
+ghost use mathlib.Core.Logic.{_⊎_};
+ghost use Prim.Native.Nat.{ℕ, _≤_};
 ghost use lib.ListN.{length};
-ghost use Rattle.laws.specs.Steps.{Plus};
 ghost use Rattle.matrix.specs.Matrix.{Square, Cell, IsMatrix, Filled, Made};
-ghost use Rattle.model.specs.Relations.{Hb, Wb0};
+ghost use Rattle.matrix.specs.Derived.{Owners};
+ghost use Rattle.model.specs.Relations.{Hb, Wb0, Wb};
 ghost use Rattle.table.specs.Events.{eventsOf};
-ghost use Rattle.facts.specs.Sound.{SoundTable};
-ghost use Rattle.relations.specs.Asked.{Counted, Given};
-ghost use Rattle.relations.specs.Owners.{ownNumber, sourceNumber, EitherOwns, Handing};
+ghost use Rattle.facts.specs.Sound.{One, Counted};
+ghost use Rattle.relations.specs.Given.{Given};
+ghost use Rattle.relations.specs.Owners.{ownNumber, sourceNumber, HandedBy, Handing};
 
 // No record has this number.
 const NONE: u8 = 255;
 
 // A record that writes owns itself.
 fn own_number(table: &[u8], v: usize) -> u8
-    requires { ⌜ SoundTable (now table) × (v < eventsOf (now table) .count) ⌝ }
+    requires { ⌜ One (now table) v ⌝ }
     ensures { λ r. ⌜ r ≡ ownNumber (eventsOf (now (table .entry))) v ⌝ }
 {
     if writes(table, v) { v as u8 } else { NONE }
@@ -34,7 +36,7 @@ fn own_number(table: &[u8], v: usize) -> u8
 
 // A record's source owns it.
 fn source_number(table: &[u8], v: usize) -> u8
-    requires { ⌜ SoundTable (now table) × (v < eventsOf (now table) .count) ⌝ }
+    requires { ⌜ One (now table) v ⌝ }
     ensures { λ r. ⌜ r ≡ sourceNumber (eventsOf (now (table .entry))) v ⌝ }
 {
     let link = source(table, v);
@@ -55,24 +57,31 @@ fn owners(table: &[u8], n: usize, own: &mut [u8], sources: &mut [u8])
     }
 }
 
-// What x relates to a record it relates to the record's owners.
-fn hand_to(own: &[u8], sources: &[u8], x: &[u8], n: usize, out: &mut [u8])
-    requires { ⌜ Handing n (now own) (now sources) (now x) (now out) ⌝ }
-    ensures { λ _. ⌜ Made n n (λ a b. EitherOwns (now (own .entry)) (now (sources .entry)) (λ v. Cell n (now (x .entry)) a v) b) (now (out .entry)) (now (out .exit)) ⌝ }
-{
-    clear(out, n);
-    gather(own, x, out, n);
-    gather(sources, x, out, n);
+// Which record of a step is handed on to its owners: the earlier or the later one.
+enum End {
+    Earlier,
+    Later,
 }
 
-// What x relates a record to it relates the record's owners to.
-fn hand_from(own: &[u8], sources: &[u8], x: &[u8], n: usize, out: &mut [u8])
+// What x relates is handed on to the owners of one column.
+fn hand_by(end: End, owner: &[u8], x: &[u8], out: &mut [u8], n: usize)
+    requires { ⌜ Owners n (now owner) (now x) (now out) ⌝ }
+    ensures { λ _. ⌜ Made n n (λ a b. Cell n (now (out .entry)) a b ⊎ HandedBy end (now (owner .entry)) (Cell n (now (x .entry))) a b) (now (out .entry)) (now (out .exit)) ⌝ }
+{
+    match end {
+        End::Earlier => scatter(owner, x, out, n),
+        End::Later => gather(owner, x, out, n),
+    }
+}
+
+// What x relates is handed on to all owners.
+fn hand_on(end: End, own: &[u8], sources: &[u8], x: &[u8], n: usize, out: &mut [u8])
     requires { ⌜ Handing n (now own) (now sources) (now x) (now out) ⌝ }
-    ensures { λ _. ⌜ Made n n (λ a b. EitherOwns (now (own .entry)) (now (sources .entry)) (λ v. Cell n (now (x .entry)) v b) a) (now (out .entry)) (now (out .exit)) ⌝ }
+    ensures { λ _. ⌜ Made n n (λ a b. HandedBy end (now (own .entry)) (Cell n (now (x .entry))) a b ⊎ HandedBy end (now (sources .entry)) (Cell n (now (x .entry))) a b) (now (out .entry)) (now (out .exit)) ⌝ }
 {
     clear(out, n);
-    scatter(own, x, out, n);
-    scatter(sources, x, out, n);
+    hand_by(end, own, x, out, n);
+    hand_by(end, sources, x, out, n);
 }
 
 // Row b, column a says whether a is wb0 before b.
@@ -84,16 +93,15 @@ pub fn wb0_matrix(table: &[u8], hb: &[u8], n: usize, out: &mut [u8])
     let mut sources = [0u8; LIMIT];
     owners(table, n, &mut own, &mut sources);
     let mut to_owners = [0u8; LIMIT * LIMIT];
-    hand_to(&own, &sources, hb, n, &mut to_owners);
-    let mut between = [0u8; LIMIT * LIMIT];
-    hand_from(&own, &sources, &to_owners, n, &mut between);
-    fill(Stored::Wb0, table, &between, hb, hb, n, out);
+    hand_on(End::Later, &own, &sources, hb, n, &mut to_owners);
+    hand_on(End::Earlier, &own, &sources, &to_owners, n, out);
+    keep(Kept::Wb0, table, n, out);
 }
 
-// One or more steps of what wb0 holds.
+// wb: "one or more steps of wb0", whichever table's wb0 it is.
 pub fn wb_matrix(wb0: &[u8], n: usize, out: &mut [u8])
     requires { ⌜ IsMatrix n (now wb0) × Square n (now out) ⌝ }
-    ensures { λ _. ⌜ Made n n (Plus (Cell n (now (wb0 .entry)))) (now (out .entry)) (now (out .exit)) ⌝ }
+    ensures { λ _. ⌜ ((b : List ℕ) → Counted b n → Given n (Wb0 (eventsOf b)) (now (wb0 .entry)) → Made n n (Wb (eventsOf b)) (now (out .entry)) (now (out .exit))) ⌝ }
 {
     copy_to(wb0, out, n);
     close(out, n);

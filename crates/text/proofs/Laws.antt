@@ -1,4 +1,4 @@
--- Laws of written text and of decimal numbers.
+-- Laws of written text, of decimal numbers, and of a piece for each of a list.
 use mathlib.Core.Path.{_≡_, refl, sym, ap, ap₂, subst, _∙_}
 use mathlib.Core.Bool.{Bool, true, false}
 use mathlib.Core.List.{List, [], _∷_, _++_, append-assoc, append-nil}
@@ -11,7 +11,7 @@ use lib.Dec.{ltb}
 use lib.ListN.{length, take, drop, set, getD, length-append, length-take, length-drop, take-append-drop, drop-of-length-le}
 use lib.Seq.{set-split, take-suc, take-at, drop-append-add, drop-drop, take-length, length-take-le}
 use borrow.Author.Tests.{lt-ltb, le-ltb}
-use Rattle.text.specs.Text.{digits, decimal, noneIf, spaced, spacedEach, Written}
+use Rattle.text.specs.Text.{digits, decimal, noneIf, each, Written}
 
 pub written-length : {before : List ℕ} {at : ℕ} {text after : List ℕ} {r : ℕ} → at + length text ≤ length before → Written before at text after r → length after ≡ length before
 written-length {before} {at} {text} h w =
@@ -104,39 +104,66 @@ decimal-more n h =
 pub decimal-longer : (n : ℕ) → 10 ≤ n → length (decimal n) ≡ length (decimal (n / 10)) + 1
 decimal-longer n h = ap length (decimal-more n h) ∙ length-append (decimal (n / 10)) ((48 + n % 10) ∷ [])
 
-pub spaced-more : (l : List ℕ) (n : ℕ) → spacedEach (l ++ (n ∷ [])) ≡ spacedEach l ++ spaced n
-spaced-more [] n = append-nil (spaced n)
-spaced-more (m ∷ l) n = ap (λ (x : List ℕ). spaced m ++ x) (spaced-more l n) ∙ sym (append-assoc (spaced m) (spacedEach l) (spaced n))
+-- a number in decimal where it has room: one digit, or the digits of n / 10 and then the last
+module _ (before : List ℕ) (at n : ℕ) (room : at + length (decimal n) ≤ length before) where
+  module _ (small : n < 10) where
+    pub one-room : at + 1 ≤ length before
+    one-room = omega (arith, ap length (decimal-one n small))
 
-pub spaced-next : (l : List ℕ) (i : ℕ) → i < length l → spacedEach (take (i + 1) l) ≡ spacedEach (take i l) ++ spaced (getD l i 0)
-spaced-next l i h = rw (add-one, take-suc l i 0) (spaced-more (take i l) (getD l i 0))
+    pub one-digit : {d : ℕ} {after : List ℕ} {r : ℕ} → d ≡ 48 + n % 10 → Written before at (d ∷ []) after r → Written before at (decimal n) after r
+    one-digit is w = written-text (ap (λ (d : ℕ). d ∷ []) is ∙ sym (decimal-one n small)) w
 
-pub spaced-within : (l : List ℕ) (i k : ℕ) → i ≤ k → length (spacedEach (take i l)) ≤ length (spacedEach (take k l))
-spaced-within l zero k h = omega arith
-spaced-within l (suc i) zero h = absurd (omega arith)
-spaced-within [] (suc i) (suc k) h = omega arith
-spaced-within (n ∷ l) (suc i) (suc k) h =
-    omega (
-      arith,
-      length-append (decimal n) (spacedEach (take i l)),
-      length-append (decimal n) (spacedEach (take k l)),
-      spaced-within l i k (omega arith),
-    )
+  module _ (large : 10 ≤ n) where
+    pub tens-room : at + length (decimal (n / 10)) ≤ length before
+    tens-room = omega (arith, decimal-longer n large)
 
--- with i of the numbers written, there is room for the next, and with it one more is written
-module _ (before numbers out : List ℕ) (at count i next v : ℕ) (l : i < count) (enough : count ≤ length numbers) (room : at + length (spacedEach (take count numbers)) ≤ length before)
-    (w : Written before at (spacedEach (take i numbers)) out next) (is : v ≡ getD numbers i 0) where
-  text : spacedEach (take (i + 1) numbers) ≡ spacedEach (take i numbers) ++ spaced v
-  text = spaced-next numbers i (omega arith) ∙ ap (λ (n : ℕ). spacedEach (take i numbers) ++ spaced n) (sym is)
+    module _ {mid : List ℕ} {next : ℕ} (tens : Written before at (decimal (n / 10)) mid next) where
+      pub last-room : next + 1 ≤ length mid
+      last-room = omega (arith, decimal-longer n large, tens .next, written-length tens-room tens)
 
-  fits : at + length (spacedEach (take i numbers) ++ spaced v) ≤ length before
-  fits = omega (arith, ap length text, spaced-within numbers (i + 1) count (omega arith))
+      pub last-digit : {d : ℕ} {after : List ℕ} {r : ℕ} → d ≡ 48 + n % 10 → Written mid next (d ∷ []) after r → Written before at (decimal n) after r
+      last-digit {d} is w = written-text text (written-then (omega (arith, ap length text)) tens w)
+        where
+          text : decimal (n / 10) ++ (d ∷ []) ≡ decimal n
+          text = ap (λ (x : ℕ). decimal (n / 10) ++ (x ∷ [])) is ∙ sym (decimal-more n large)
 
-  pub each-room : next + length (spaced v) ≤ length out
-  each-room =
-      let a = length-append (spacedEach (take i numbers)) (spaced v) in
-      let f = fits in
-      omega (arith, w .next, written-length (omega arith) w)
+-- ---- a piece for each of a list
 
-  pub each-more : {after : List ℕ} {r : ℕ} → Written out next (spaced v) after r → Written before at (spacedEach (take (i + 1) numbers)) after r
-  each-more x = written-text (sym text) (written-then fits w x)
+module _ {A : Type 0} (piece : A → List ℕ) where
+  each-last : (l : List A) (a : A) → each piece (l ++ (a ∷ [])) ≡ each piece l ++ piece a
+  each-last [] a = append-nil (piece a)
+  each-last (b ∷ l) a =
+      ap (λ (x : List ℕ). piece b ++ x) (each-last l a) ∙ sym (append-assoc (piece b) (each piece l) (piece a))
+
+  each-within : (l : List A) (i k : ℕ) → i ≤ k → length (each piece (take i l)) ≤ length (each piece (take k l))
+  each-within l zero k h = omega arith
+  each-within l (suc i) zero h = absurd (omega arith)
+  each-within [] (suc i) (suc k) h = omega arith
+  each-within (a ∷ l) (suc i) (suc k) h =
+      omega (
+        arith,
+        length-append (piece a) (each piece (take i l)),
+        length-append (piece a) (each piece (take k l)),
+        each-within l i k (omega arith),
+      )
+
+  -- with i of the pieces written, there is room for the next, and with it one more is written
+  module _ (before : List ℕ) (l : List A) (out : List ℕ) (at count i next : ℕ) (d a : A) (more : i < count) (enough : count ≤ length l) (room : at + length (each piece (take count l)) ≤ length before)
+      (w : Written before at (each piece (take i l)) out next) (is : a ≡ getD l i d) where
+    text : each piece (take (i + 1) l) ≡ each piece (take i l) ++ piece a
+    text =
+        let inside : i < length l = omega arith in
+        rw (add-one, take-suc l i d)
+        (each-last (take i l) (getD l i d) ∙ ap (λ (x : A). each piece (take i l) ++ piece x) (sym is))
+
+    fits : at + length (each piece (take i l) ++ piece a) ≤ length before
+    fits = omega (arith, ap length text, each-within l (i + 1) count (omega arith))
+
+    pub each-room : next + length (piece a) ≤ length out
+    each-room =
+        let joined = length-append (each piece (take i l)) (piece a) in
+        let f = fits in
+        omega (arith, w .next, written-length (omega arith) w)
+
+    pub each-more : {after : List ℕ} {r : ℕ} → Written out next (piece a) after r → Written before at (each piece (take (i + 1) l)) after r
+    each-more x = written-text (sym text) (written-then fits w x)

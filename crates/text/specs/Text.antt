@@ -18,13 +18,18 @@ digits (suc bound) n = noneIf (ltb n 10) (digits bound (n / 10)) ++ ((48 + n % 1
 unfoldable pub decimal : ℕ → List ℕ
 decimal n = digits (suc n) n
 
+-- a piece for each of a list, one after another
+module _ {A : Type 0} (piece : A → List ℕ) where
+  abbrev pub each : List A → List ℕ
+  each [] = []
+  each (a ∷ l) = piece a ++ each l
+
 -- "one space before each"
 abbrev pub spaced : ℕ → List ℕ
 spaced n = 32 ∷ decimal n
 
 abbrev pub spacedEach : List ℕ → List ℕ
-spacedEach [] = []
-spacedEach (n ∷ ns) = spaced n ++ spacedEach ns
+spacedEach = each spaced
 
 -- after is before with the text in place from `at` on, and r is the place after the text
 pub record Written (before : List ℕ) (at : ℕ) (text : List ℕ) (after : List ℕ) (r : ℕ) : Type 0 where

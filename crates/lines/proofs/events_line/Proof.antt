@@ -1,42 +1,41 @@
--- `events_line`: the name, what stands after it, the line end.
+-- `events_line` meets its contract: the word, the count, the line end.
+use mathlib.Core.List.{[], _∷_}
+use borrow.Author.Needs.{needs}
 use Rattle.text.specs.Text.{spaced}
 use Rattle.lines.specs.Lines.{eventsWord}
-use mathlib.Core.List.{List, [], _∷_}
-use Prim.Native.Nat.{ℕ}
-use borrow.Author.Needs.{needs}
 use Rattle.lines.proofs.Pieces.{first-room, second-room, third-room, all-three}
 use Rattle.lines.proofs.events_line.Statement.{statement}
 use Rattle.lines.proofs.events_line.Tie as tie
 
--- the line end
-abbrev end : List ℕ
-end = 10 ∷ []
-
 put-requires : tie.Need-put-requires
 put-requires c κs =
-    let s = c .before .before .before in
-    first-room (s .args .out .now) (s .args .at) eventsWord (spaced (s .args .count)) end (s .pre)
+    let entry = c .before .before .before in
+    let a = entry .args in
+    first-room (a .out .now) (a .at) eventsWord (spaced (a .count)) (10 ∷ []) (entry .pre)
 
 put-spaced-requires : tie.Need-put-spaced-requires
 put-spaced-requires c κs =
-    let p = c .before .before .before in
-    let s = p .before .before .before .before in
-    second-room (s .args .out .now) (s .args .at) eventsWord (spaced (s .args .count)) end (s .pre) (p .put .ensures)
+    let word = c .before .before .before in
+    let entry = word .before .before .before .before in
+    let a = entry .args in
+    second-room (a .out .now) (a .at) eventsWord (spaced (a .count)) (10 ∷ []) (entry .pre) (word .put .ensures)
 
 put-requires-2 : tie.Need-put-requires-2
 put-requires-2 c κs =
-    let q = c .before .before .before .before in
-    let p = q .before .before .before .before in
-    let s = p .before .before .before .before in
-    third-room (s .args .out .now) (s .args .at) eventsWord (spaced (s .args .count)) end (s .pre) (p .put .ensures) (q .put-spaced .ensures)
+    let count = c .before .before .before .before in
+    let word = count .before .before .before .before in
+    let entry = word .before .before .before .before in
+    let a = entry .args in
+    third-room (a .out .now) (a .at) eventsWord (spaced (a .count)) (10 ∷ []) (entry .pre) (word .put .ensures) (count .put-spaced .ensures)
 
 returns : tie.Need-returns
 returns c =
-    let e = c .before .before in
-    let q = e .before .before .before .before .before in
-    let p = q .before .before .before .before in
-    let s = p .before .before .before .before in
-    all-three (s .args .out .now) (s .args .at) eventsWord (spaced (s .args .count)) end (s .pre) (p .put .ensures) (q .put-spaced .ensures) (e .put2 .ensures)
+    let end = c .before .before in
+    let count = end .before .before .before .before .before in
+    let word = count .before .before .before .before in
+    let entry = word .before .before .before .before in
+    let a = entry .args in
+    all-three (a .out .now) (a .at) eventsWord (spaced (a .count)) (10 ∷ []) (entry .pre) (word .put .ensures) (count .put-spaced .ensures) (end .put2 .ensures)
 
 pub events-line-spec : {M : Type 1} → statement M
 events-line-spec =

@@ -1,36 +1,40 @@
--- `put_place`: the number, `at`, the place.
+-- `put_place` meets its contract: the number, `at`, the place.
+use borrow.Author.Needs.{needs}
 use Rattle.text.specs.Text.{spaced}
 use Rattle.lines.specs.Lines.{atWord}
 use Rattle.lines.proofs.Pieces.{first-room, second-room, third-room, all-three}
-use borrow.Author.Needs.{needs}
 use Rattle.lines.proofs.put_place.Statement.{statement}
 use Rattle.lines.proofs.put_place.Tie as tie
 
 put-spaced-requires : tie.Need-put-spaced-requires
 put-spaced-requires c κs =
-    let s = c .before .before in
-    first-room (s .args .out .now) (s .args .at) (spaced (s .args .number)) atWord (spaced (s .args .place)) (s .pre)
+    let entry = c .before .before in
+    let a = entry .args in
+    first-room (a .out .now) (a .at) (spaced (a .told .number)) atWord (spaced (a .told .place)) (entry .pre)
 
 put-requires : tie.Need-put-requires
 put-requires c κs =
-    let p = c .before .before .before .before in
-    let s = p .before .before .before in
-    second-room (s .args .out .now) (s .args .at) (spaced (s .args .number)) atWord (spaced (s .args .place)) (s .pre) (p .put-spaced .ensures)
+    let number = c .before .before .before .before in
+    let entry = number .before .before .before in
+    let a = entry .args in
+    second-room (a .out .now) (a .at) (spaced (a .told .number)) atWord (spaced (a .told .place)) (entry .pre) (number .put-spaced .ensures)
 
 put-spaced-requires-2 : tie.Need-put-spaced-requires-2
 put-spaced-requires-2 c κs =
-    let q = c .before .before .before in
-    let p = q .before .before .before .before .before in
-    let s = p .before .before .before in
-    third-room (s .args .out .now) (s .args .at) (spaced (s .args .number)) atWord (spaced (s .args .place)) (s .pre) (p .put-spaced .ensures) (q .put .ensures)
+    let word = c .before .before .before in
+    let number = word .before .before .before .before .before in
+    let entry = number .before .before .before in
+    let a = entry .args in
+    third-room (a .out .now) (a .at) (spaced (a .told .number)) atWord (spaced (a .told .place)) (entry .pre) (number .put-spaced .ensures) (word .put .ensures)
 
 returns : tie.Need-returns
 returns c =
-    let e = c .before .before in
-    let q = e .before .before .before .before in
-    let p = q .before .before .before .before .before in
-    let s = p .before .before .before in
-    all-three (s .args .out .now) (s .args .at) (spaced (s .args .number)) atWord (spaced (s .args .place)) (s .pre) (p .put-spaced .ensures) (q .put .ensures) (e .put-spaced2 .ensures)
+    let place = c .before .before in
+    let word = place .before .before .before .before in
+    let number = word .before .before .before .before .before in
+    let entry = number .before .before .before in
+    let a = entry .args in
+    all-three (a .out .now) (a .at) (spaced (a .told .number)) atWord (spaced (a .told .place)) (entry .pre) (number .put-spaced .ensures) (word .put .ensures) (place .put-spaced2 .ensures)
 
 pub put-place-spec : {M : Type 1} → statement M
 put-place-spec =

@@ -1,47 +1,60 @@
--- `put_report`: the eight lines.
-use Rattle.matrix.specs.Found.{numberOf, pairOf}
-use Rattle.cycle.specs.Answer.{cycleOf}
-use Rattle.judge.specs.Answer.{verdictOf}
-use Rattle.lines.specs.Lines.{headText, pairsText, tailText, reportText}
-use Rattle.lines.proofs.Pieces.{first-room, second-room, third-room, all-three}
+-- `put_report` meets its contract: the count, the lines of the findings, the verdict.
+use mathlib.Core.List.{List}
+use Prim.Native.Nat.{ℕ}
 use borrow.Author.Needs.{needs}
+use Rattle.findings.specs.declared.Findings.{Findings}
+use Rattle.findings.specs.declared.Verdict.{Verdict}
+use Rattle.findings.specs.Family.{inOrder}
+use Rattle.text.specs.Text.{spaced}
+use Rattle.lines.specs.Lines.{line, eventsWord, verdictWord, verdictText, linesOf, reportText}
+use Rattle.lines.specs.Witnesses.{witnesses}
+use Rattle.lines.proofs.Pieces.{first-room, second-room, third-room, all-three}
 use Rattle.lines.proofs.put_report.Statement.{statement}
 use Rattle.lines.proofs.put_report.Tie as tie
 
-put-head-requires : tie.Need-put-head-requires
-unfolding reportText
-put-head-requires c κs =
-    let s = c .before .before .before .before in
-    let x = s .args .x in
-    (first-room (s .args .out .now) 0 (headText (x .events) (numberOf (x .r)) (cycleOf (x .«a1») (s .args .first .now))) (pairsText (pairOf (x .«a2»)) (pairOf (x .«a3»))) (tailText (cycleOf (x .«a4») (s .args .second .now)) (pairOf (x .w)) (verdictOf (x .verdict))) (s .pre .0), s .pre .1)
+abbrev count : ℕ → List ℕ
+count n = line eventsWord (spaced n)
 
-put-pairs-requires : tie.Need-put-pairs-requires
-unfolding reportText
-put-pairs-requires c κs =
-    let p = c .before .before .before in
-    let s = p .before .before .before .before .before in
-    let x = s .args .x in
-    second-room (s .args .out .now) 0 (headText (x .events) (numberOf (x .r)) (cycleOf (x .«a1») (s .args .first .now))) (pairsText (pairOf (x .«a2»)) (pairOf (x .«a3»))) (tailText (cycleOf (x .«a4») (s .args .second .now)) (pairOf (x .w)) (verdictOf (x .verdict))) (s .pre .0) (p .put-head .ensures)
+abbrev lines : Findings → List ℕ → List ℕ → List ℕ
+lines x first second = linesOf (witnesses x first second) inOrder
 
-put-tail-requires : tie.Need-put-tail-requires
+abbrev last : Verdict → List ℕ
+last verdict = line verdictWord (verdictText verdict)
+
+events-line-requires : tie.Need-events-line-requires
 unfolding reportText
-put-tail-requires c κs =
-    let q = c .before .before .before in
-    let p = q .before .before .before .before in
-    let s = p .before .before .before .before .before in
-    let x = s .args .x in
-    (third-room (s .args .out .now) 0 (headText (x .events) (numberOf (x .r)) (cycleOf (x .«a1») (s .args .first .now))) (pairsText (pairOf (x .«a2»)) (pairOf (x .«a3»))) (tailText (cycleOf (x .«a4») (s .args .second .now)) (pairOf (x .w)) (verdictOf (x .verdict))) (s .pre .0) (p .put-head .ensures) (q .put-pairs .ensures), s .pre .2)
+events-line-requires c κs =
+    let entry = c .before .before .before .before in
+    let a = entry .args in
+    first-room (a .out .now) 0 (count (a .events)) (lines (a .x) (a .first .now) (a .second .now)) (last (a .verdict)) (entry .pre .0)
+
+put-findings-requires : tie.Need-put-findings-requires
+unfolding reportText
+put-findings-requires c κs =
+    let events = c .before .before .before in
+    let entry = events .before .before .before .before .before in
+    let a = entry .args in
+    (second-room (a .out .now) 0 (count (a .events)) (lines (a .x) (a .first .now) (a .second .now)) (last (a .verdict)) (entry .pre .0) (events .events-line .ensures), entry .pre .1)
+
+verdict-line-requires : tie.Need-verdict-line-requires
+unfolding reportText
+verdict-line-requires c κs =
+    let findings = c .before .before .before in
+    let events = findings .before .before .before .before in
+    let entry = events .before .before .before .before .before in
+    let a = entry .args in
+    third-room (a .out .now) 0 (count (a .events)) (lines (a .x) (a .first .now) (a .second .now)) (last (a .verdict)) (entry .pre .0) (events .events-line .ensures) (findings .put-findings .ensures)
 
 returns : tie.Need-returns
 unfolding reportText
 returns c =
-    let e = c .before .before in
-    let q = e .before .before .before .before in
-    let p = q .before .before .before .before in
-    let s = p .before .before .before .before .before in
-    let x = s .args .x in
-    all-three (s .args .out .now) 0 (headText (x .events) (numberOf (x .r)) (cycleOf (x .«a1») (s .args .first .now))) (pairsText (pairOf (x .«a2»)) (pairOf (x .«a3»))) (tailText (cycleOf (x .«a4») (s .args .second .now)) (pairOf (x .w)) (verdictOf (x .verdict))) (s .pre .0) (p .put-head .ensures) (q .put-pairs .ensures) (e .put-tail .ensures)
+    let verdict = c .before .before in
+    let findings = verdict .before .before .before .before in
+    let events = findings .before .before .before .before in
+    let entry = events .before .before .before .before .before in
+    let a = entry .args in
+    all-three (a .out .now) 0 (count (a .events)) (lines (a .x) (a .first .now) (a .second .now)) (last (a .verdict)) (entry .pre .0) (events .events-line .ensures) (findings .put-findings .ensures) (verdict .verdict-line .ensures)
 
 pub put-report-spec : {M : Type 1} → statement M
 put-report-spec =
-    tie.close (tie.spec put-head-requires put-pairs-requires put-tail-requires (search needs) returns)
+    tie.close (tie.spec events-line-requires put-findings-requires verdict-line-requires (search needs) returns)

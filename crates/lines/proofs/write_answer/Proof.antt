@@ -1,4 +1,4 @@
--- `write_answer`: the text is made aside, and copied if it has room.
+-- `write_answer` meets its contract: the text is made aside, and copied if it has room.
 use mathlib.Core.Path.{sym}
 use native.Mathlib.Omega.{arith}
 use borrow.Author.Needs.{needs}
@@ -7,16 +7,27 @@ use Rattle.lines.proofs.write_answer.Statement.{statement}
 use Rattle.lines.proofs.write_answer.Tie as tie
 
 returns : tie.Need-returns
-returns c = no-room-for (c .before .before .put-answer .ensures) (c .before .before .before .before .before .before .args .out .now) (c .if1 .taken)
+returns c =
+    let made = c .before .before in
+    let entry = made .before .before .before .before in
+    no-room-for (made .put-answer .ensures) (entry .args .out .now) (c .if1 .taken)
 
 slice-aggregate-put : tie.Need-slice-aggregate-put
 slice-aggregate-put c = sym (text-long (c .before .before .before .before .put-answer .ensures))
 
 put-requires : tie.Need-put-requires
-put-requires c κs = omega (arith, text-long (c .before .before .before .before .put-answer .ensures), c .before .before .if1 .left)
+put-requires c κs =
+    let room = c .before .before in
+    let made = room .before .before in
+    omega (arith, text-long (made .put-answer .ensures), room .if1 .left)
 
 returns-2 : tie.Need-returns-2
-returns-2 c = copied (c .before .before .before .before .before .before .before .put-answer .ensures) (c .before .before .before .before .before .before .before .before .before .before .before .args .out .now) (c .before .before .before .before .before .if1 .left) (c .before .before .put .ensures)
+returns-2 c =
+    let copy = c .before .before in
+    let room = copy .before .before .before in
+    let made = room .before .before in
+    let entry = made .before .before .before .before in
+    copied (made .put-answer .ensures) (entry .args .out .now) (room .if1 .left) (copy .put .ensures)
 
 pub write-answer-spec : {M : Type 1} → statement M
 write-answer-spec =

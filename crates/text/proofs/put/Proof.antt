@@ -1,4 +1,4 @@
--- `put`: the piece stands where the part was lent.
+-- `put` meets its contract: the piece stands where the part was lent.
 use native.Mathlib.Omega.{arith}
 use borrow.Author.Needs.{needs}
 use Rattle.text.proofs.Laws.{written-part}

@@ -1,4 +1,4 @@
--- `put_byte`: one byte is set.
+-- `put_byte` meets its contract: one byte is set.
 use native.Mathlib.Omega.{arith}
 use borrow.Author.Needs.{needs}
 use Rattle.text.proofs.Laws.{written-byte}

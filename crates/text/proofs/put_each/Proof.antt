@@ -1,10 +1,10 @@
--- `put_each`: the first i numbers stand, each after a space.
+-- `put_each` meets its contract: in the loop the first i numbers stand, each after a space.
 use Prim.Native.Nat.{ℕ, _≤_, _-_, _+_}
 use mathlib.Core.Path.{_≡_, sym, ap, subst, _∙_}
 use native.Mathlib.Omega.{arith}
 use lib.ListN.{length, take, getD}
 use borrow.Author.Needs.{needs}
-use Rattle.text.specs.Text.{Written, spacedEach}
+use Rattle.text.specs.Text.{Written, spaced, spacedEach}
 use Rattle.text.proofs.Laws.{written-length, written-nothing, each-room, each-more}
 use Rattle.text.proofs.put_each.Statement.{statement}
 use Rattle.text.proofs.put_each.Tie as tie
@@ -20,31 +20,33 @@ loop-holds c = (omega arith, written-nothing _ _)
 
 put-spaced-requires : tie.Need-put-spaced-requires Inv-loop μ-loop
 put-spaced-requires c κs =
-    let l = c .before .before .before .before in
-    let s = l .before .before .before in
-    each-room (s .args .out .now) (s .args .numbers .now) (l .loop .out) (s .args .at) (s .args .count) (l .loop .i) (l .loop .next) (c .wide .result) (omega arith) (s .pre .0) (s .pre .1) (l .loop .inv .1) (c .wide .ensures)
+    let turn = c .before .before .before .before in
+    let entry = turn .before .before .before in
+    each-room spaced (entry .args .out .now) (entry .args .numbers .now) (turn .loop .out) (entry .args .at) (entry .args .count) (turn .loop .i) (turn .loop .next) 0 (c .wide .result) (omega arith) (entry .pre .0) (entry .pre .1) (turn .loop .inv .1) (c .wide .ensures)
 
 loop-again : tie.Need-loop-again Inv-loop μ-loop
 loop-again c =
-    let w = c .before .before .before in
-    let l = w .before .before .before .before in
-    let s = l .before .before .before in (
+    let number = c .before .before .before in
+    let turn = number .before .before .before .before in
+    let entry = turn .before .before .before in (
       omega arith,
-      each-more (s .args .out .now) (s .args .numbers .now) (l .loop .out) (s .args .at) (s .args .count) (l .loop .i) (l .loop .next) (w .wide .result) (omega arith) (s .pre .0) (s .pre .1) (l .loop .inv .1) (w .wide .ensures)
+      each-more spaced (entry .args .out .now) (entry .args .numbers .now) (turn .loop .out) (entry .args .at) (entry .args .count) (turn .loop .i) (turn .loop .next) 0 (number .wide .result) (omega arith) (entry .pre .0) (entry .pre .1) (turn .loop .inv .1) (number .wide .ensures)
           (c .before .before .put-spaced .ensures),
     )
 
 same-length : tie.Need-same-length Inv-loop μ-loop
 same-length c =
-    let l = c .before in
-    let s = l .before .before .before in
-    let e : l .loop .i ≡ s .args .count = omega arith in
-    written-length (omega (arith, s .pre .1, ap (λ (i : ℕ). length (spacedEach (take i (s .args .numbers .now)))) e)) (l .loop .inv .1)
+    let turn = c .before in
+    let entry = turn .before .before .before in
+    let all : turn .loop .i ≡ entry .args .count = omega arith in
+    written-length (omega (arith, entry .pre .1, ap (λ (i : ℕ). length (spacedEach (take i (entry .args .numbers .now)))) all)) (turn .loop .inv .1)
 
 returns : tie.Need-returns Inv-loop μ-loop
 returns c =
-    let e : c .before .loop .i ≡ c .before .before .before .before .args .count = omega arith in
-    rw e at (c .before .loop .inv .1)
+    let turn = c .before in
+    let entry = turn .before .before .before in
+    let all : turn .loop .i ≡ entry .args .count = omega arith in
+    rw all at (turn .loop .inv .1)
 
 pub put-each-spec : {M : Type 1} → statement M
 put-each-spec =

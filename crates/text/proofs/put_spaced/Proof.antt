@@ -1,4 +1,4 @@
--- `put_spaced`: the space, and then the number.
+-- `put_spaced` meets its contract: the space, and then the number.
 use native.Mathlib.Omega.{arith}
 use borrow.Author.Needs.{needs}
 use Rattle.text.proofs.Laws.{written-then}

@@ -1,4 +1,4 @@
--- `completeness::lacks` meets its contract.
+-- `completeness::lacks` meets its contract: it is told part by part.
 use borrow.Author.Needs.{needs}
 use Rattle.edit.proofs.Completing.{parent-low, source-low, lacking-told}
 use Rattle.edit.proofs.completeness.lacks.Statement.{statement}
@@ -6,21 +6,21 @@ use Rattle.edit.proofs.completeness.lacks.Tie as tie
 
 link-kept-requires : tie.Need-link-kept-requires
 link-kept-requires c κs =
-    let s = c .before .before .before .before .before in
-    parent-low (s .pre .0) (s .pre .1) (c .parent .ensures)
+    let entry = c .before .before .before .before .before in
+    parent-low (entry .pre .0) (entry .pre .1) (c .parent .ensures)
 
 link-kept-requires-2 : tie.Need-link-kept-requires-2
 link-kept-requires-2 c κs =
-    let s = c .before .before .before .before .before .before .before in
-    source-low (s .pre .0) (s .pre .1) (c .source .ensures)
+    let entry = c .before .before .before .before .before .before .before in
+    source-low (entry .pre .0) (entry .pre .1) (c .source .ensures)
 
 returns : tie.Need-returns
 returns c =
     let raced = c .before in
     let sourced = raced .before .before in
     let parented = sourced .before .before in
-    let s = parented .before .before .before .before .before in
-    lacking-told (s .pre .0) (s .pre .1) (parented .parent .ensures) (sourced .source .ensures) (sourced .before .link-kept .ensures) (raced .before .link-kept2 .ensures) (raced .race-kept .ensures)
+    let entry = parented .before .before .before .before .before in
+    lacking-told (entry .pre .0) (entry .pre .1) (parented .parent .ensures) (sourced .source .ensures) (sourced .before .link-kept .ensures) (raced .before .link-kept2 .ensures) (raced .race-kept .ensures)
 
 pub lacks-spec : {M : Type 1} → statement M
 lacks-spec =

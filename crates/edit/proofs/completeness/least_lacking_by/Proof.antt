@@ -4,7 +4,7 @@ use native.Mathlib.Omega.{arith}
 use borrow.Author.Count.{below-more}
 use Rattle.laws.specs.Least.{Least}
 use Rattle.laws.proofs.Says.{said, denied}
-use Rattle.matrix.proofs.Passed.{number-found}
+use Rattle.laws.proofs.Passed.{number-found}
 use Rattle.table.specs.Events.{eventsOf}
 use Rattle.edit.specs.Columns.{keptBy}
 use Rattle.edit.specs.Cut.{Lacking}
@@ -12,13 +12,15 @@ use Rattle.edit.proofs.completeness.least_lacking_by.Statement.{stateme
 use Rattle.edit.proofs.completeness.least_lacking_by.Tie as tie
 
 abbrev Inv-loop : tie.InvT-loop
-Inv-loop table kept early before count n₀ n = (n ≤ count) × ((m : ℕ) → m < n → ¬ Lacking (keptBy kept) (eventsOf table) m)
+Inv-loop table kept hb race count n₀ n = (n ≤ count) × ((m : ℕ) → m < n → ¬ Lacking (keptBy kept) (eventsOf table) m)
 
 abbrev μ-loop : tie.MeasureT-loop
-μ-loop table kept early before count n₀ n = count - n
+μ-loop table kept hb race count n₀ n = count - n
 
 lacks-requires : tie.Need-lacks-requires Inv-loop μ-loop
-lacks-requires c κs = (c .before .before .before .before .before .before .pre, c .loop-test .taken)
+lacks-requires c κs =
+    let entry = c .before .before .before .before .before .before in
+    (entry .pre, c .loop-test .taken)
 
 returns : tie.Need-returns Inv-loop μ-loop
 returns c = number-found (c .before .before .before .loop .inv .1) (said (c .before .lacks .ensures) (c .if1 .taken))
@@ -28,8 +30,8 @@ loop-again c = (omega arith, below-more _ _ (c .before .before .before .loop .in
 
 returns-2 : tie.Need-returns-2 Inv-loop μ-loop
 returns-2 c =
-    let s = c .before .before .before .before .before .before in
-    Least.absent (λ m l. c .before .loop .inv .1 m (omega (arith, l .inside, s .pre .table .all)) l)
+    let entry = c .before .before .before .before .before .before in
+    Least.absent (λ m l. c .before .loop .inv .1 m (omega (arith, l .inside, entry .pre .table .all)) l)
 
 pub least-lacking-by-spec : {M : Type 1} → statement M
 least-lacking-by-spec =

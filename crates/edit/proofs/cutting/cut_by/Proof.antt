@@ -2,8 +2,8 @@
 use mathlib.Core.Path.{refl}
 use borrow.Author.Needs.{needs}
 use denote.Ref.{now}
+use Rattle.facts.proofs.Promise.{counted}
 use Rattle.edit.specs.Cut.{lacking}
-use Rattle.edit.proofs.Answering.{counted}
 use Rattle.edit.proofs.cutting.cut_by.Statement.{statement}
 use Rattle.edit.proofs.cutting.cut_by.Tie as tie
 

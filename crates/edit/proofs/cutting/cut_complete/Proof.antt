@@ -3,10 +3,11 @@ use native.Mathlib.Omega.{arith}
 use borrow.Author.Needs.{needs}
 use denote.Ref.{now}
 use Rattle.model.proofs.CutNumbers.{new-at-most}
-use Rattle.relations.specs.Asked.{Counted}
-use Rattle.relations.proofs.Counting.{few}
+use Rattle.facts.specs.Sound.{Counted}
+use Rattle.facts.proofs.Promise.{counted}
+use Rattle.facts.proofs.Records.{few}
 use Rattle.edit.specs.Columns.{keptBy}
-use Rattle.edit.proofs.Answering.{counted, kept-answer, no-room-answer}
+use Rattle.edit.proofs.Answering.{kept-answer, no-room-answer}
 use Rattle.edit.proofs.cutting.cut_complete.Statement.{statement}
 use Rattle.edit.proofs.cutting.cut_complete.Tie as tie
 

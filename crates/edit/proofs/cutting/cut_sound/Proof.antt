@@ -5,9 +5,10 @@ use borrow.Author.Needs.{needs}
 use denote.Ref.{now}
 use Rattle.laws.proofs.Says.{said, denied}
 use Rattle.limits.specs.Limit.{limit}
-use Rattle.relations.proofs.Counting.{few}
+use Rattle.facts.proofs.Promise.{counted}
+use Rattle.facts.proofs.Records.{few}
 use Rattle.edit.specs.Cut.{bad-selection}
-use Rattle.edit.proofs.Answering.{counted, zeros, same-choice, selected-by, answered-by}
+use Rattle.edit.proofs.Answering.{zeros, same-choice, selected-by, answered-by}
 use Rattle.edit.proofs.cutting.cut_sound.Statement.{statement}
 use Rattle.edit.proofs.cutting.cut_sound.Tie as tie
 

@@ -30,7 +30,9 @@ loop-holds : tie.Need-loop-holds Inv-loop μ-loop Inv-search μ-search
 loop-holds c = let i = c .before .search .inv in (omega arith, i .1, i .2)
 
 shows-pair-requires : tie.Need-shows-pair-requires Inv-loop μ-loop Inv-search μ-search
-shows-pair-requires c κs = ?
+shows-pair-requires c κs =
+    let entry = c .before .before .before .before .before .before .before .before in
+    (record { table = entry .pre .0; col = omega arith; row = omega arith }, entry .pre .1)
 
 loop-again : tie.Need-loop-again Inv-loop μ-loop Inv-search μ-search
 loop-again c =
@@ -38,10 +40,18 @@ loop-again c =
     (omega arith, i .1, passed-more (denied (c .before .shows-pair .ensures) (c .if1 .left)) (i .2))
 
 search-again : tie.Need-search-again Inv-loop μ-loop Inv-search μ-search
-search-again c = ?
+search-again c =
+    let entry = c .before .before .before .before .before .before .before .before in
+    let counted = entry .pre .0 in
+    let i = c .before .loop .inv in
+    (omega arith, i .1, passed-row (within-count counted (pair-within (formed counted) (entry .args .finding))) (c .loop-test .left) (i .2))
 
 returns : tie.Need-returns Inv-loop μ-loop Inv-search μ-search
-returns c = ?
+returns c =
+    let entry = c .before .before .before .before .before .before in
+    let counted = entry .pre .0 in
+    let i = c .before .search .inv in
+    rw (i .1) (found-no-pair (passed-all (within-count counted (pair-within (formed counted) (entry .args .finding))) (c .search-test .left) (i .2)))
 
 returns-2 : tie.Need-returns-2 Inv-loop μ-loop Inv-search μ-search
 returns-2 c = found-pair (passed-found (said (c .before .shows-pair .ensures) (c .if1 .taken)) (c .before .before .before .loop .inv .2))

@@ -22,7 +22,8 @@ abbrev μ-loop : tie.MeasureT-loop
 
 unjustified-requires : tie.Need-unjustified-requires Inv-loop μ-loop
 unjustified-requires c κs =
-    let (counted, hb, race) = c .before .before .before .before .pre in
+    let entry = c .before .before .before .before .before in
+    let (counted, (hb, race)) = entry .pre in
     record { table = counted; inside = omega arith; by-hb = hb; by-race = race }
 
 returns : tie.Need-returns Inv-loop μ-loop
@@ -35,7 +36,8 @@ loop-again c =
 
 returns-2 : tie.Need-returns-2 Inv-loop μ-loop
 returns-2 c =
-    let counted = c .before .before .before .pre .0 in
+    let entry = c .before .before .before .before .before in
+    let counted = entry .pre .0 in
     found-no-record (Least.absent (λ j s. c .before .loop .inv .1 j (omega (arith, counted .all, read-inside (formed counted) j (s .reads))) s))
 
 pub find-read-spec : {M : Type 1} → statement M

@@ -10,17 +10,20 @@ use Rattle.precedence.proofs.LastSteps.{row-linked, linked-hb, hb-linke
 use Rattle.precedence.proofs.before.hb_row.Statement.{statement}
 use Rattle.precedence.proofs.before.hb_row.Tie as tie
 
+abbrev entry : tie.After-clear-row → tie.Start
+entry c = c .before .before .before .before
+
 take-in-link-requires : tie.Need-take-in-link-requires
 take-in-link-requires c κs =
     let cleared = c .before .before .before .before in
-    let q = cleared .before .before .before .before .pre in
+    let q = entry cleared .pre in
     falls-place (parent-falls _ (c .parent .ensures) (formed (q .table))) (q .row) (q .row) (omega (arith, q .room, cleared .clear-row .kept .0))
 
 take-in-link-requires-2 : tie.Need-take-in-link-requires-2
 take-in-link-requires-2 c κs =
     let by-parent = c .before .before .before .before in
     let cleared = by-parent .before .before .before .before .before in
-    let q = cleared .before .before .before .before .pre in
+    let q = entry cleared .pre in
     falls-place (sw-falls (formed (q .table)) (c .sw-source .ensures)) (q .row) (q .row)
     (omega (arith, q .room, cleared .clear-row .kept .0, by-parent .take-in-link .kept .0))
 
@@ -29,14 +32,14 @@ returns c =
     let by-source = c .before .before .before in
     let by-parent = by-source .before .before .before .before in
     let cleared = by-parent .before .before .before .before .before in
-    let entry = cleared .before .before .before .before in
-    let t = eventsOf (entry .args .table .now) in
-    let ok = formed (entry .pre .table) in
+    let start = entry cleared in
+    let t = eventsOf (start .args .table .now) in
+    let ok = formed (start .pre .table) in
     let parent = by-parent .before .parent .ensures in
     let source = by-source .sw-source .ensures in
     made-row-iff (λ a. linked-hb t (parent-leads t parent) source) (λ a. hb-linked t (parent-leads t parent) source)
-    (row-linked _ (sw-falls ok source) (entry .pre .rows)
-    (row-linked _ (parent-falls t parent ok) (entry .pre .rows) (cleared .clear-row .ensures) (by-parent .take-in-link .ensures))
+    (row-linked _ (sw-falls ok source) (start .pre .rows)
+    (row-linked _ (parent-falls t parent ok) (start .pre .rows) (cleared .clear-row .ensures) (by-parent .take-in-link .ensures))
     (c .before .before .take-in-link2 .ensures))
 
 pub hb-row-spec : {M : Type 1} → statement M

@@ -9,21 +9,24 @@ use Rattle.precedence.proofs.LastSteps.{row-linked, linked-po, po-linke
 use Rattle.precedence.proofs.before.po_row.Statement.{statement}
 use Rattle.precedence.proofs.before.po_row.Tie as tie
 
+abbrev entry : tie.After-clear-row → tie.Start
+entry c = c .before .before .before .before
+
 take-in-link-requires : tie.Need-take-in-link-requires
 take-in-link-requires c κs =
     let cleared = c .before .before .before .before in
-    let q = cleared .before .before .before .before .pre in
+    let q = entry cleared .pre in
     falls-place (parent-falls _ (c .parent .ensures) (formed (q .table))) (q .row) (q .row) (omega (arith, q .room, cleared .clear-row .kept .0))
 
 returns : tie.Need-returns
 returns c =
     let asked = c .before .before .before in
     let cleared = asked .before .before .before .before in
-    let entry = cleared .before .before .before .before in
-    let t = eventsOf (entry .args .table .now) in
+    let start = entry cleared in
+    let t = eventsOf (start .args .table .now) in
     let parent = asked .parent .ensures in
     made-row-iff (λ a. linked-po t (parent-leads t parent)) (λ a. po-linked t (parent-leads t parent))
-    (row-linked _ (parent-falls t parent (formed (entry .pre .table))) (entry .pre .rows) (cleared .clear-row .ensures) (c .before .before .take-in-link .ensures))
+    (row-linked _ (parent-falls t parent (formed (start .pre .table))) (start .pre .rows) (cleared .clear-row .ensures) (c .before .before .take-in-link .ensures))
 
 pub po-row-spec : {M : Type 1} → statement M
 po-row-spec = tie.close (tie.spec (λ c κs. search needs) (λ c κs. search needs) take-in-link-requires (λ c. search needs) returns)

@@ -17,24 +17,28 @@ Inv-loop table n m₀ b a₀ m a = (a ≤ n) × MadeRow n a b (λ k. Conflict (e
 abbrev μ-loop : tie.MeasureT-loop
 μ-loop table n m₀ b a₀ m a = n - a
 
+abbrev entry : tie.At-loop Inv-loop μ-loop → tie.Start Inv-loop μ-loop
+entry c = c .before .before .before
+
 asked :
     (c : tie.In-loop Inv-loop μ-loop)
-    → let s = c .before .before .before .before in CellsBefore Conflict (s .args .table .now) (s .args .n) (c .before .loop .m) (c .before .loop .a) (s .args .b)
-asked c = next-cell Conflict (c .before .before .before .before .pre) (c .loop-test .taken) (c .before .loop .inv .1)
+    → let s = entry (c .before) in CellsBefore Conflict (s .args .table .now) (s .args .n) (c .before .loop .m) (c .before .loop .a) (s .args .b)
+asked c = next-cell Conflict (entry (c .before) .pre) (c .loop-test .taken) (c .before .loop .inv .1)
 
 loop-again : tie.Need-loop-again Inv-loop μ-loop
 loop-again c =
-    let i = c .before .before .before .before in
-    let l = i .before .before in
-    (omega arith, rw (c .before .before .put .ensures) (made-put (cell-place (asked l)) (i .in-conflict .ensures) (l .before .loop .inv .1)))
+    let told = c .before .before .before .before in
+    let turn = told .before .before in
+    (omega arith, rw (c .before .before .put .ensures) (made-put (cell-place (asked turn)) (told .in-conflict .ensures) (turn .before .loop .inv .1)))
 
 same-length : tie.Need-same-length Inv-loop μ-loop
 same-length c = c .before .loop .inv .1 .rest .size
 
 returns : tie.Need-returns Inv-loop μ-loop
 returns c =
-    let e : c .before .loop .a ≡ c .before .before .before .before .args .n = omega arith in
-    rw e at (c .before .loop .inv .1)
+    let loop = c .before in
+    let e : loop .loop .a ≡ entry loop .args .n = omega arith in
+    rw e at (loop .loop .inv .1)
 
 pub conflict-row-spec : {M : Type 1} → statement M
 conflict-row-spec =

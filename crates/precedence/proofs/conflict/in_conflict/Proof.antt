@@ -1,4 +1,5 @@
 -- `conflict::in_conflict` meets its contract: conflict by cases, the parents' from the cells made before.
+use native.Mathlib.Omega.{arith}
 use borrow.Author.Needs.{needs}
 use Rattle.laws.proofs.Says.{said, denied, says-yes, says-iff}
 use Rattle.facts.proofs.Records.{formed}
@@ -11,7 +12,7 @@ has-from-requires : tie.Need-has-from-requires
 has-from-requires c κs =
     let q = c .before .before .before .pre in
     let rows = q .before in
-    falls-place (parent-falls _ (c .parent .ensures) (formed (rows .table))) (q .col) (rows .row) (rows .room)
+    falls-place (parent-falls _ (c .parent .ensures) (formed (rows .table))) (omega (arith, rows .row, q .col)) (rows .row) (rows .room)
 
 returns : tie.Need-returns
 returns c =
@@ -23,7 +24,7 @@ has-to-requires c κs =
     let first = c .before .before .before in
     let q = first .before .before .before .pre in
     let rows = q .before in
-    falls-place (parent-falls _ (c .parent2 .ensures) (formed (rows .table))) (rows .row) (q .col) (rows .room)
+    falls-place (parent-falls _ (c .parent2 .ensures) (formed (rows .table))) (omega (arith, rows .row, q .col)) (q .col) (rows .room)
 
 returns-2 : tie.Need-returns-2
 returns-2 c =

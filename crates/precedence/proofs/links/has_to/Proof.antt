@@ -1,4 +1,4 @@
--- `links::has_to` meets its contract, by cases on the link.
+-- `links::has_to` meets its contract: the link leads to one record or to none.
 use borrow.Author.Needs.{needs}
 use Rattle.precedence.proofs.Linking.{says-linked-none, says-linked}
 use Rattle.precedence.proofs.links.has_to.Statement.{statement}
@@ -6,8 +6,9 @@ use Rattle.precedence.proofs.links.has_to.Tie as tie
 
 has-requires : tie.Need-has-requires
 has-requires c κs =
-    let p = c .before .before .before .before .pre in
-    record { room = p .room; col = p .other; row = p .linked _ (c .before .link .given .1) }
+    let arm = c .before in
+    let p = arm .before .before .before .pre in
+    record { room = p .room; col = p .other; row = p .linked _ (arm .link .given .1) }
 
 returns : tie.Need-returns
 returns c = says-linked-none (c .enum-told .given .1)

@@ -6,17 +6,20 @@ use Rattle.precedence.proofs.upward.row.Tie as tie
 po-row-requires : tie.Need-po-row-requires
 po-row-requires c κs =
     let arm = c .before in
-    rw (arm .enum-told .given .1) at (arm .before .before .before .before .pre)
+    let entry = arm .before .before .before .before in
+    rw (arm .enum-told .given .1) at (entry .pre)
 
 conflict-row-requires : tie.Need-conflict-row-requires
 conflict-row-requires c κs =
     let arm = c .before in
-    rw (arm .enum-told2 .given .1) at (arm .before .before .before .before .pre)
+    let entry = arm .before .before .before .before in
+    rw (arm .enum-told2 .given .1) at (entry .pre)
 
 hb-row-requires : tie.Need-hb-row-requires
 hb-row-requires c κs =
     let arm = c .before in
-    rw (arm .enum-told3 .given .1) at (arm .before .before .before .before .pre)
+    let entry = arm .before .before .before .before in
+    rw (arm .enum-told3 .given .1) at (entry .pre)
 
 returns : tie.Need-returns
 returns c =

@@ -1,6 +1,6 @@
 -- `sequential::sc_matrix` meets its contract: hbsc is made, then the steps.
 use borrow.Author.Needs.{needs}
-use Rattle.relations.proofs.Counting.{square-few}
+use Rattle.facts.proofs.Records.{square-few}
 use Rattle.relations.proofs.Making.{made-given}
 use Rattle.relations.proofs.sequential.sc_matrix.Statement.{statement}
 use Rattle.relations.proofs.sequential.sc_matrix.Tie as tie
@@ -12,9 +12,9 @@ hbsc-matrix-requires c κs =
 
 fill-requires : tie.Need-fill-requires
 fill-requires c κs =
-    let (counted, po, hb, wb, room) = c .before .before .before .before .before .before .before .before .before .before .pre in
-    record { table = counted; inputs = (made-given (square-few counted) (c .before .before .before .hbsc-matrix .ensures), wb); room = room }
+    let made = c .before .before .before in
+    let (counted, po, hb, wb, room) = made .before .before .before .before .before .before .before .pre in
+    record { table = counted; first = made-given (square-few counted) (made .hbsc-matrix .ensures); second = wb; room = room }
 
 pub sc-matrix-spec : {M : Type 1} → statement M
-sc-matrix-spec =
-    tie.close (tie.spec (λ c. search needs) hbsc-matrix-requires (λ c. search needs) fill-requires (λ c. search needs) (λ c. search needs))
+sc-matrix-spec = tie.close (tie.spec (λ c. search needs) hbsc-matrix-requires (λ c. search needs) fill-requires (λ c. search needs) (λ c. search needs))

@@ -1,4 +1,4 @@
--- `shown::conflict_before` meets its contract, part by part.
+-- `shown::conflict_before` meets its contract: it is told part by part.
 use borrow.Author.Needs.{needs}
 use Rattle.laws.proofs.Says.{says-and, says-iff}
 use Rattle.relations.proofs.Telling.{told}
@@ -7,9 +7,10 @@ use Rattle.relations.proofs.shown.conflict_before.Tie as tie
 
 returns : tie.Need-returns
 returns c =
-    let (two, (hb, cf)) = c .before .before .before .before .before .pre in
+    let asked = c .before in
+    let (placed, (cf, hb)) = asked .before .before .before .before .pre in
     says-iff (λ (k, h). record { conflict = k; before = h }) (λ z. (z .conflict, z .before))
-    (says-and (told two cf (c .before .has .ensures)) (told two hb (c .has2 .ensures)))
+    (says-and (told placed cf (asked .has .ensures)) (told placed hb (c .has2 .ensures)))
 
 pub conflict-before-spec : {M : Type 1} → statement M
 conflict-before-spec = tie.close (tie.spec (λ c κs. search needs) (λ c κs. search needs) returns)

@@ -1,4 +1,4 @@
--- `writes::own_number` meets its contract, by whether the record writes.
+-- `writes::own_number` meets its contract: the record writes or has no number.
 use mathlib.Core.Path.{sym, _∙_}
 use borrow.Author.Needs.{needs}
 use Rattle.relations.proofs.writes.own_number.Statement.{statement}

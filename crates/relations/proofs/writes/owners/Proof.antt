@@ -6,6 +6,7 @@ use native.Mathlib.Omega.{arith}
 use Rattle.matrix.specs.Matrix.{Filled}
 use Rattle.matrix.proofs.Parts.{filled-none, filled-more}
 use Rattle.table.specs.Events.{eventsOf}
+use Rattle.facts.proofs.Records.{one-of}
 use Rattle.relations.specs.Owners.{ownNumber, sourceNumber}
 use Rattle.relations.proofs.writes.owners.Statement.{statement}
 use Rattle.relations.proofs.writes.owners.Tie as tie
@@ -18,10 +19,14 @@ abbrev μ-loop : tie.MeasureT-loop
 μ-loop table n own₀ sources₀ v₀ own sources v = n - v
 
 own-number-requires : tie.Need-own-number-requires Inv-loop μ-loop
-own-number-requires c κs = (c .before .before .before .before .before .pre .0 .sound, omega (arith, c .before .before .before .before .before .pre .0 .all))
+own-number-requires c κs =
+    let entry = c .before .before .before .before .before in
+    one-of (entry .pre .0) (omega arith)
 
 source-number-requires : tie.Need-source-number-requires Inv-loop μ-loop
-source-number-requires c κs = (c .before .before .before .before .before .before .pre .0 .sound, omega (arith, c .before .before .before .before .before .before .pre .0 .all))
+source-number-requires c κs =
+    let entry = c .before .before .before .before .before .before in
+    one-of (entry .pre .0) (omega arith)
 
 loop-again : tie.Need-loop-again Inv-loop μ-loop
 loop-again c =
@@ -30,8 +35,9 @@ loop-again c =
 
 returns : tie.Need-returns Inv-loop μ-loop
 returns c =
-    let e : c .before .loop .v ≡ c .before .before .before .before .before .args .n = omega arith in
-    (rw e at (c .before .loop .inv .1), rw e at (c .before .loop .inv .2))
+    let loop = c .before in
+    let e : loop .loop .v ≡ loop .before .before .before .before .args .n = omega arith in
+    (rw e at (loop .loop .inv .1), rw e at (loop .loop .inv .2))
 
 pub owners-spec : {M : Type 1} → statement M
 owners-spec =

@@ -1,4 +1,4 @@
--- `writes::source_number` meets its contract, by the link.
+-- `writes::source_number` meets its contract: the link of the source is the number or none.
 use mathlib.Core.Path.{sym, _∙_}
 use borrow.Author.Needs.{needs}
 use Rattle.relations.proofs.writes.source_number.Statement.{statement}

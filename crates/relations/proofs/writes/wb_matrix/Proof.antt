@@ -1,8 +1,8 @@
 -- `writes::wb_matrix` meets its contract: the copy holds the same, and the closure one or more steps of it.
 use borrow.Author.Needs.{needs}
 use native.Mathlib.Omega.{arith}
-use Rattle.matrix.proofs.Cells.{cell-within, bits-of}
-use Rattle.relations.proofs.Making.{made-closed}
+use Rattle.matrix.proofs.Cells.{bits-of}
+use Rattle.relations.proofs.Making.{wb-made}
 use Rattle.relations.proofs.writes.wb_matrix.Statement.{statement}
 use Rattle.relations.proofs.writes.wb_matrix.Tie as tie
 
@@ -10,7 +10,10 @@ close-requires : tie.Need-close-requires
 close-requires c κs = record { room = omega arith; bits = bits-of (c .before .before .before .copy-to .ensures .rows) }
 
 returns : tie.Need-returns
-returns c = made-closed (cell-within _ _) (c .before .before .before .before .before .before .copy-to .ensures) (c .before .before .close .ensures)
+returns c =
+    let closed = c .before .before in
+    let copied = closed .before .before .before .before in
+    λ b. wb-made (copied .copy-to .ensures) (closed .close .ensures)
 
 pub wb-matrix-spec : {M : Type 1} → statement M
 wb-matrix-spec = tie.close (tie.spec (λ c κs. search needs) close-requires (λ c. search needs) returns)

@@ -1,0 +1,66 @@
+// Records by their parts.
+use events::Event;
+use events::Link;
+use events::Order;
+use events::Record;
+use events::Value;
+
+// "an Init of thread 0 without parent"
+pub fn root() -> Record {
+    Record {
+        thread: 0,
+        parent: Link::Absent,
+        source: Link::Absent,
+        event: Event::Init,
+    }
+}
+
+pub fn init(thread: u8, parent: u8) -> Record {
+    Record {
+        thread,
+        parent: Link::To(parent),
+        source: Link::Absent,
+        event: Event::Init,
+    }
+}
+
+pub fn store(order: Order, thread: u8, parent: u8, location: u8, value: u16) -> Record {
+    Record {
+        thread,
+        parent: Link::To(parent),
+        source: Link::Absent,
+        event: Event::Store {
+            order,
+            location,
+            written: Value::Known(value),
+        },
+    }
+}
+
+// A load of a number.
+pub fn load(order: Order, thread: u8, parent: u8, source: u8, location: u8, value: u16) -> Record {
+    Record {
+        thread,
+        parent: Link::To(parent),
+        source: Link::To(source),
+        event: Event::Load {
+            order,
+            location,
+            read: Value::Known(value),
+        },
+    }
+}
+
+// A load of u without a source.
+pub fn load_u(order: Order, thread: u8, parent: u8, location: u8) -> Record {
+    Record {
+        thread,
+        parent: Link::To(parent),
+        source: Link::Absent,
+        event: Event::Load {
+            order,
+            location,
+            read: Value::U,
+        },
+    }
+}
