@@ -9,7 +9,7 @@ use lib.Dec.{T}
 use Rattle.laws.specs.Says.{Says}
 use Rattle.laws.proofs.Says.{says-yes, says-no, says-T, says-and, says-iff, says-one}
 use Rattle.record.specs.Form.{allFrom, restsAt, rested}
-use Rattle.record.specs.Refused.{FirstRestless}
+use Rattle.record.specs.Restless.{FirstRestless}
 
 says-all-from : (f : ℕ → Bool) (n i : ℕ) → Says (allFrom f i n) ((j : ℕ) → i ≤ j → j < i + n → T (f j))
 says-all-from f zero i = says-yes (λ j l h. absurd (omega arith))

@@ -1,12 +1,12 @@
 -- The rows 2 to 5 of document 01's table of refusals, as propositions on the sixteen bytes of a record.
 use mathlib.Core.Path.{_≡_}
 use mathlib.Core.List.{List}
-use Prim.Native.Nat.{ℕ, _%_, _<_, _≤_}
+use Prim.Native.Nat.{ℕ, _%_, _≤_}
 use lib.Dec.{T}
 use Rattle.refusals.specs.declared.Fault.the-variants.{Mark, Kind, Rest, Range}
 use Rattle.record.specs.declared.Decoded.{Decoded}
 use Rattle.record.specs.declared.Decoded.the-variants.{Good, Bad}
-use Rattle.record.specs.Form.{recordSize, byteAt, kindByte, orderByte, threadByte, sourceByte, locationByte, flagsByte, readsKind, writesKind, inRow, restsAt, recordFrom}
+use Rattle.record.specs.Form.{byteAt, kindByte, orderByte, threadByte, sourceByte, locationByte, flagsByte, readsKind, writesKind, inRow, recordFrom}
 
 module _ (b : List ℕ) where
   -- not 2: "mark is not 45 56"
@@ -46,12 +46,6 @@ module _ (b : List ℕ) where
     pub written-high : ¬ (Writes × ¬ WrittenU) → byteAt b 13 ≡ 0
     pub fourteen : byteAt b 14 ≡ 0
     pub fifteen : byteAt b 15 ≡ 0
-
-  -- i is the least byte that does not rest and should, or the size of a record where there is none
-  pub record FirstRestless (i : ℕ) : Type 0 where
-    pub within : i ≤ recordSize
-    pub before : (j : ℕ) → j < i → 6 ≤ j → T (restsAt b j)
-    pub there : i < recordSize → (6 ≤ i) × ¬ T (restsAt b i)
 
   -- not 5: "thread above 15 or location above 31"
   pub record InRange : Type 0 where

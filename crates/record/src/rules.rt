@@ -2,7 +2,7 @@
 ghost use mathlib.Core.Path.{_≡_};
 ghost use lib.ListN.{length};
 ghost use Rattle.record.specs.Form.{recordSize, readsKind, writesKind, readU, writtenU, marked, inRow, flagsRest, restsAs, inRange, recordFrom, decode, unlessFaulty};
-ghost use Rattle.record.specs.Refused.{FirstRestless};
+ghost use Rattle.record.specs.Restless.{FirstRestless};
 use crate::places::FLAGS;
 use crate::places::INIT;
 use crate::places::KIND;

@@ -156,41 +156,42 @@ module _ (t : Table) (n : ℕ) (at : ℕ → Record) (alike : (m : ℕ) → m < 
       | known-from-nothing _ v ↦ known-not-u (some-same (sym v ∙ value))
     ])
 
-    module _ {s : ℕ} (is : t .at n .source ≡ To s) (v : Value) (value : readOf (t .at n .event) ≡ some v) where
+    module _ {s : ℕ} (is : t .at n .source ≡ To s) where
       source : Source t s n
       source = record { reads = reads; is = is }
 
-      module _ (earlier : s < n) {y : ℕ} {w : Value} (writes : T (isWrite (t .at s .event))) (there : locationOf (t .at s .event) ≡ some y) (wrote : writtenOf (t .at s .event) ≡ some w) where
-        clash : Dec (y ≡ x) → (v w : Value) → readOf (t .at n .event) ≡ some v → writtenOf (t .at s .event) ≡ some w → ¬ ((y ≡ x) × T (agrees v w)) → Refused7 t n
-        clash (no other) v w value wrote h =
-            no-earlier-write source (λ e. other (eqb→eq y x (rw (there, placed) at (e .one-location))))
-        clash (yes same) U w value wrote h = absurd (h (same, tt))
-        clash (yes same) (Known v) U value wrote h = known-from-u source wrote value
-        clash (yes same) (Known v) (Known w) value wrote h = other-value source wrote value (λ e. h (same, says-eq w v .from e))
+      clash :
+          {y : ℕ} → locationOf (t .at s .event) ≡ some y → Dec (y ≡ x) → (v w : Value) → readOf (t .at n .event) ≡ some v → writtenOf (t .at s .event) ≡ some w → ¬ ((y ≡ x) × T (agrees v w)) → Refused7 t n
+      clash {y} there (no other) v w value wrote h =
+          no-earlier-write source (λ e. other (eqb→eq y x (rw (there, placed) at (e .one-location))))
+      clash there (yes same) U w value wrote h = absurd (h (same, tt))
+      clash there (yes same) (Known v) U value wrote h = known-from-u source wrote value
+      clash there (yes same) (Known v) (Known w) value wrote h = other-value source wrote value (λ e. h (same, says-eq w v .from e))
 
-        wrote-at : {k : ℕ} {u : Value} → Source t k n → writtenOf (t .at k .event) ≡ some u → w ≡ u
-        wrote-at {u = u} c a =
-            some-same (sym wrote ∙ subst (λ (k : ℕ). writtenOf (t .at k .event) ≡ some u) (one-end is (c .is)) a)
+      wrote-at : {k : ℕ} {u w : Value} → writtenOf (t .at s .event) ≡ some w → Source t k n → writtenOf (t .at k .event) ≡ some u → w ≡ u
+      wrote-at {u = u} wrote c a =
+          some-same (sym wrote ∙ subst (λ (k : ℕ). writtenOf (t .at k .event) ≡ some u) (one-end is (c .is)) a)
 
-        no-clash : Refused7 t n → ¬ ((y ≡ x) × T (agrees v w))
-        no-clash r (same, agree) = elim r [
-          | no-earlier-write c lacking ↦
-              subst (λ (k : ℕ). ¬ EarlierWrite t k n) (one-end is (c .is)) lacking
-              (record { earlier = earlier; write = writes; one-location = rw (there, placed) (says-eq y x .from same) })
-          | other-value {w = a} {v = b} c p q d ↦ d (eqb→eq a b (rw (some-same (sym value ∙ q), wrote-at c p) at agree))
-          | known-from-u c p q ↦ (rw (some-same (sym value ∙ q), wrote-at c p) at agree)
-          | known-from-nothing absent _ ↦ absent-to absent is
-        ]
+      no-clash :
+          {v w : Value} → EarlierWrite t s n → readOf (t .at n .event) ≡ some v → writtenOf (t .at s .event) ≡ some w → T (agrees v w) → ¬ Refused7 t n
+      no-clash write value wrote agree r = elim r [
+        | no-earlier-write c lacking ↦ subst (λ (k : ℕ). ¬ EarlierWrite t k n) (one-end is (c .is)) lacking write
+        | other-value {w = a} {v = b} c p q d ↦ d (eqb→eq a b (rw (some-same (sym value ∙ q), wrote-at wrote c p) at agree))
+        | known-from-u c p q ↦ (rw (some-same (sym value ∙ q), wrote-at wrote c p) at agree)
+        | known-from-nothing absent _ ↦ absent-to absent is
+      ]
 
-      source-7 : Says (unfit at n s x v) (Refused7 t n)
-      source-7 =
+      source-7 : (v : Value) → readOf (t .at n .event) ≡ some v → Says (unfit at n s x v) (Refused7 t n)
+      source-7 v value =
           says-pick (says-lt s n) (λ h. rw (alike s h) (go h (written-as (t .at s .event))))
           (λ late. says-yes (no-earlier-write source (λ w. late (w .earlier))))
         where
           go : s < n → {a : Access} → WrittenAs (t .at s .event) a → Says (not (suits a x v)) (Refused7 t n)
           go h (no-write never) = says-yes (no-earlier-write source (λ w. never (w .write)))
           go h (a-write {x = y} {w = w} writes there wrote) =
-              says-iff (clash h writes there wrote (says-dec (says-eq y x)) v w value wrote) (no-clash h writes there wrote)
+              says-iff (clash there (says-dec (says-eq y x)) v w value wrote)
+              (λ r (same, agree).
+              no-clash (record { earlier = h; write = writes; one-location = rw (there, placed) (says-eq y x .from same) }) value wrote agree r)
               (says-not (says-and (says-eq y x) (says-T (agrees v w))))
 
   pub says-7 : Says (sourceFault at n (t .at n)) (Refused7 t n)

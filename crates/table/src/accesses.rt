@@ -1,4 +1,4 @@
-// What tests 7 and 8 ask of events: where a value was read or written, and which.
+// What tests 6 to 8 ask of one or two events, values and links.
 ghost use mathlib.Core.Path.{_≡_};
 ghost use Rattle.events.specs.Words.{isInit};
 ghost use Rattle.table.specs.Computed.{sameLink, readBy, writtenBy, isU, sameValue, agrees, suits, branches};
@@ -6,6 +6,7 @@ use events::Event;
 use events::Link;
 use events::Value;
 
+// Where a value was read or written, and which.
 pub enum Access {
     Nothing,
     At { location: u8, value: Value },
