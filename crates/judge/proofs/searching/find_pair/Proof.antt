@@ -2,7 +2,6 @@
 use mathlib.Core.Path.{_≡_, refl}
 use Prim.Native.Nat.{_-_, _≤_}
 use native.Mathlib.Omega.{arith}
-use borrow.Author.Needs.{needs}
 use Rattle.laws.proofs.Says.{said, denied}
 use Rattle.laws.proofs.Passed.{Passed, passed-none, passed-more, passed-row, passed-all, passed-found}
 use Rattle.findings.specs.declared.Found.the-variants.{Nothing}
