@@ -1,6 +1,6 @@
 -- `faults::twin_fault` meets its contract: what was found is what a search below m finds.
 use mathlib.Core.Path.{_≡_, refl}
-use Prim.Native.Nat.{ℕ, _-_, _≤_}
+use Prim.Native.Nat.{_-_, _≤_}
 use native.Mathlib.Omega.{arith}
 use Rattle.laws.specs.Says.{anyBelow}
 use Rattle.table.specs.Computed.{twinFault}
