@@ -8,7 +8,7 @@ use Rattle.refusals.specs.declared.Fault.{Fault}
 use Rattle.refusals.specs.declared.Refusal.{Refusal}
 use Rattle.refusals.specs.Numbers.{at, faultNumber, told}
 use Rattle.limits.specs.Limit.{limit}
-use Rattle.record.specs.Form.{encode, overwritten}
+use Rattle.record.specs.Form.{recordSize, encode, overwritten}
 use Rattle.table.specs.declared.Tested.the-variants as tested
 use Rattle.model.specs.Table.{Table}
 use Rattle.table.specs.Events.{eventsOf, bytesOf}
@@ -20,11 +20,11 @@ module _ (b : List ℕ) (used : ℕ) where
   -- not 1: "in an append, instead, more than 64 records in use or more than the buffer holds"
   pub record InUse : Type 0 where
     pub few : used ≤ limit
-    pub held : 16 * used ≤ length b
+    pub held : recordSize * used ≤ length b
 
   -- the records in use, as a table of their own
   abbrev pub front : List ℕ
-  front = take (16 * used) b
+  front = take (recordSize * used) b
 
   -- and none of "the records in use" is refused
   pub record SoundUse : Type 0 where
@@ -35,7 +35,7 @@ module _ (b : List ℕ) (used : ℕ) where
   pub record Ready : Type 0 where
     pub sound-use : SoundUse
     pub not-full : ¬ (used ≡ limit)
-    pub room : 16 * used + 16 ≤ length b
+    pub room : recordSize * used + recordSize ≤ length b
 
   module _ (new : Record) where
     -- "the new event .. at the next number, as if its bytes were read"
@@ -47,7 +47,7 @@ module _ (b : List ℕ) (used : ℕ) where
       not-in-use : {r : Refusal} → ¬ InUse → told r ≡ at 1 0 → Decides (Refused r)
       bad-record : {r : Refusal} → InUse → RecordsAnswer front (tested.Refused r) → Decides (Refused r)
       full : {r : Refusal} → SoundUse → used ≡ limit → told r ≡ at 12 0 → Decides (Refused r)
-      no-room : {r : Refusal} → SoundUse → ¬ (used ≡ limit) → ¬ (16 * used + 16 ≤ length b) → told r ≡ at 11 0 → Decides (Refused r)
+      no-room : {r : Refusal} → SoundUse → ¬ (used ≡ limit) → ¬ (recordSize * used + recordSize ≤ length b) → told r ≡ at 11 0 → Decides (Refused r)
       bad-new : {r : Refusal} {f : Fault} → Ready → FaultAt extended used f → told r ≡ at (faultNumber f) used → Decides (Refused r)
       -- "an append returns the new count"
       good : Ready → Passes extended used → Decides (Count (used + 1))
@@ -71,6 +71,6 @@ pub data Appends (at : ℕ → Record) (b : List ℕ) : ℕ → List ℕ → Typ
 pub record Builds (t : Table) (b : List ℕ) : Type 0 where
   pub after : List ℕ
   pub run : Appends (t .at) b (t .count) after
-  pub bytes : take (16 * t .count) after ≡ bytesOf t
-  pub events : eventsOf (take (16 * t .count) after) ≡ t
-  pub rest : drop (16 * t .count) after ≡ drop (16 * t .count) b
+  pub bytes : take (recordSize * t .count) after ≡ bytesOf t
+  pub events : eventsOf (take (recordSize * t .count) after) ≡ t
+  pub rest : drop (recordSize * t .count) after ≡ drop (recordSize * t .count) b

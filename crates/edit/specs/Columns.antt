@@ -8,7 +8,7 @@ use lib.Dec.{eqb}
 use lib.ListN.{length, getD}
 use Rattle.laws.specs.Says.{Says}
 use Rattle.limits.specs.Limit.{limit}
-use Rattle.record.specs.Form.{parentByte, sourceByte, part}
+use Rattle.record.specs.Form.{recordSize, parentByte, sourceByte, part}
 use Rattle.model.specs.Relations.{Hb, Race}
 use Rattle.model.specs.Cut.{newNumber}
 use Rattle.table.specs.Events.{eventsOf}
@@ -85,16 +85,16 @@ pub record LinkIn (numbers : List ℕ) (link : ℕ) : Type 0 where
 
 -- the sixteen bytes of a record with such links
 pub record PartLinks (p numbers : List ℕ) : Type 0 where
-  pub long : length p ≡ 16
+  pub long : length p ≡ recordSize
   pub parent : LinkIn numbers (parentByte p)
   pub source : LinkIn numbers (sourceByte p)
 
 -- record n is there, and so are its number and the place of that number
 pub record Placing (b : List ℕ) (n : ℕ) (numbers out : List ℕ) : Type 0 where
-  pub held : 16 * n + 16 ≤ length b
+  pub held : recordSize * n + recordSize ≤ length b
   pub numbered : n < length numbers
   pub links : PartLinks (part b n) numbers
-  pub room : 16 * numberIn numbers n + 16 ≤ length out
+  pub room : recordSize * numberIn numbers n + recordSize ≤ length out
 
 -- the kept records of a sound table have their numbers, and there is room for them
 pub record Writing (b kept numbers : List ℕ) (count : ℕ) (out : List ℕ) : Type 0 where
@@ -102,4 +102,4 @@ pub record Writing (b kept numbers : List ℕ) (count : ℕ) (out : List ℕ) : 
   pub column : count ≤ length kept
   pub numbered : (m : ℕ) → m < count → numberIn numbers m ≡ newNumber (keptBy kept) m
   pub columns : count ≤ length numbers
-  pub room : 16 * newNumber (keptBy kept) count ≤ length out
+  pub room : recordSize * newNumber (keptBy kept) count ≤ length out

@@ -9,7 +9,7 @@ use lib.ListN.{length, drop, set}
 use Rattle.refusals.specs.declared.Refusal.{Refusal}
 use Rattle.refusals.specs.Numbers.{at, told}
 use Rattle.laws.specs.Least.{LeastNumber}
-use Rattle.record.specs.Form.{pick, parentByte, sourceByte, part}
+use Rattle.record.specs.Form.{recordSize, pick, parentByte, sourceByte, part}
 use Rattle.model.specs.Table.{Table, Inside}
 use Rattle.model.specs.Relations.{EarlierRace}
 use Rattle.model.specs.Cut.{newNumber, Complete, CutOf, NoFaultInvented}
@@ -37,7 +37,7 @@ keptBytes k b (suc n) = keptBytes k b n ++ pick (k n) (renumberedBytes (newNumbe
 
 -- "changes the first 16k bytes of the output only"
 abbrev pub cutBytes : (ℕ → Bool) → List ℕ → ℕ → List ℕ → List ℕ
-cutBytes k b n before = keptBytes k b n ++ drop (16 * newNumber k n) before
+cutBytes k b n before = keptBytes k b n ++ drop (recordSize * newNumber k n) before
 
 -- ---- what is answered
 
@@ -69,9 +69,9 @@ module _ (b : List ℕ) (k : ℕ → Bool) where
       bad-selection : {r : Refusal} {n : ℕ} → TestAnswer b (tested.Sound n) → Refused9 k n → told r ≡ at 9 0 → Decides (Refused r)
       -- "for 10 the least such kept record"
       lacking : {r : Refusal} {n m : ℕ} → Selected n → LeastNumber (Lacking k (eventsOf b)) (some m) → told r ≡ at 10 m → Decides (Refused r)
-      no-room : {r : Refusal} {n : ℕ} → Whole n → ¬ (16 * newNumber k n ≤ length before) → told r ≡ at 11 0 → Decides (Refused r)
+      no-room : {r : Refusal} {n : ℕ} → Whole n → ¬ (recordSize * newNumber k n ≤ length before) → told r ≡ at 11 0 → Decides (Refused r)
       -- "and returns k"
-      good : {n : ℕ} → Whole n → 16 * newNumber k n ≤ length before → Decides (Kept (newNumber k n))
+      good : {n : ℕ} → Whole n → recordSize * newNumber k n ≤ length before → Decides (Kept (newNumber k n))
 
     -- "A refusal changes nothing lent"
     abbrev pub bytesAfter : CutDown → List ℕ

@@ -2,7 +2,7 @@
 ghost use mathlib.Core.Path.{_≡_};
 ghost use Prim.Native.Nat.{_+_, _*_, _≤_};
 ghost use lib.ListN.{length};
-ghost use Rattle.record.specs.Form.{part, overwritten};
+ghost use Rattle.record.specs.Form.{recordSize, part, overwritten};
 ghost use Rattle.edit.specs.Columns.{numberIn, LinkIn, PartLinks, Placing, keptBy, Writing};
 ghost use Rattle.edit.specs.Cut.{renumberedLink, renumberedBytes, cutBytes};
 use record::places::NONE;
@@ -23,11 +23,11 @@ fn relinked(numbers: &[u8], link: u8) -> u8
 }
 
 // The sixteen bytes of a kept record.
-fn renumbered_bytes(old: &[u8], numbers: &[u8]) -> [u8; 16]
+fn renumbered_bytes(old: &[u8], numbers: &[u8]) -> [u8; SIZE]
     requires { ⌜ PartLinks (now old) (now numbers) ⌝ }
     ensures { λ r. ⌜ r ≡ renumberedBytes (numberIn (now (numbers .entry))) (now (old .entry)) ⌝ }
 {
-    let mut new = [0u8; 16];
+    let mut new = [0u8; SIZE];
     bytes::copy(old, &mut new);
     new[PARENT] = relinked(numbers, old[PARENT]);
     new[SOURCE] = relinked(numbers, old[SOURCE]);
@@ -36,7 +36,7 @@ fn renumbered_bytes(old: &[u8], numbers: &[u8]) -> [u8; 16]
 
 // Writes sixteen bytes as record n, and changes no other byte.
 fn write_part(out: &mut [u8], n: usize, new: &[u8])
-    requires { ⌜ (16 * n + 16 ≤ length (now out)) × (length (now new) ≡ 16) ⌝ }
+    requires { ⌜ (recordSize * n + recordSize ≤ length (now out)) × (length (now new) ≡ recordSize) ⌝ }
     ensures { λ _. ⌜ now (out .exit) ≡ overwritten (now (out .entry)) n (now (new .entry)) ⌝ }
 {
     let at = SIZE * n;

@@ -6,7 +6,7 @@ use lib.ListN.{length}
 use Rattle.model.specs.Table.{Inside}
 use Rattle.model.specs.WellFormed.{WellFormed}
 use Rattle.record.specs.declared.Decoded.the-variants.{Good}
-use Rattle.record.specs.Form.{decode, part}
+use Rattle.record.specs.Form.{recordSize, decode, part}
 use Rattle.table.specs.Events.{eventsOf}
 use Rattle.limits.specs.Limit.{limit}
 
@@ -14,7 +14,7 @@ use Rattle.limits.specs.Limit.{limit}
 pub record SoundTable (b : List ℕ) : Type 0 where
   pub formed : WellFormed (eventsOf b)
   pub few : eventsOf b .count ≤ limit
-  pub size : 16 * eventsOf b .count ≡ length b
+  pub size : recordSize * eventsOf b .count ≡ length b
   pub decodes : (n : ℕ) → n < eventsOf b .count → decode (part b n) ≡ Good (eventsOf b .at n)
 
 -- a is the number of one of its records

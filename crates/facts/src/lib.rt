@@ -2,7 +2,7 @@
 ghost use mathlib.Core.Path.{_≡_};
 ghost use Prim.Native.Nat.{_<_};
 ghost use Rattle.events.specs.Words.{isRead, isWrite, isNA, isSC, orderOf, acquires, releases, oneLocation};
-ghost use Rattle.record.specs.Form.{byteAt, part};
+ghost use Rattle.record.specs.Form.{recordSize, byteAt, part};
 ghost use Rattle.table.specs.Events.{eventsOf};
 ghost use Rattle.facts.specs.Sound.{One, Two};
 use events::Link;
@@ -23,7 +23,7 @@ use record::places::UPDATE;
 
 // Byte i of record n.
 fn byte(table: &[u8], n: usize, i: usize) -> u8
-    requires { ⌜ One (now table) n × (i < 16) ⌝ }
+    requires { ⌜ One (now table) n × (i < recordSize) ⌝ }
     ensures { λ r. ⌜ r ≡ byteAt (part (now (table .entry)) n) i ⌝ }
 {
     table[SIZE * n + i]
