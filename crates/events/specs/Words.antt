@@ -6,7 +6,6 @@ use lib.Dec.{eqb}
 use Rattle.events.specs.declared.Order.{Order}
 use Rattle.events.specs.declared.Order.the-variants.{Na, Acq, Rel, Ar, Sc}
 use Rattle.events.specs.declared.Value.{Value}
-use Rattle.events.specs.declared.Value.the-variants.{U, Known}
 use Rattle.events.specs.declared.Event.{Event}
 use Rattle.events.specs.declared.Event.the-variants.{Init, Load, Store, Update}
 

@@ -13,7 +13,7 @@ use Rattle.events.specs.declared.Order.the-variants.{Na, Acq, Rel, Ar, Sc}
 use Rattle.events.specs.declared.Value.{Value}
 use Rattle.events.specs.declared.Event.{Event}
 use Rattle.events.specs.declared.Record.{Record}
-use Rattle.events.specs.Words.{isRead, isWrite, isNA, isSC, orderOf, locationOf, acquires, releases, codeOf, sameLocation, oneLocation}
+use Rattle.events.specs.Words.{isRead, isWrite, isNA, isSC, orderOf, locationOf, codeOf, sameLocation, oneLocation}
 use Rattle.record.specs.declared.Decoded.{Decoded}
 use Rattle.record.specs.declared.Decoded.the-variants.{Good}
 use Rattle.record.specs.Form.{pick, byteAt, kindByte, orderByte, locationByte, readsKind, writesKind, orderFrom, eventFrom, readFrom, writtenFrom, recordFrom, part}

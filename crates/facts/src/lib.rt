@@ -2,7 +2,7 @@
 ghost use mathlib.Core.Path.{_≡_};
 ghost use Prim.Native.Nat.{_<_};
 ghost use Rattle.events.specs.Words.{isRead, isWrite, isNA, isSC, orderOf, acquires, releases, oneLocation};
-ghost use Rattle.record.specs.Form.{byteAt, part, linkFrom};
+ghost use Rattle.record.specs.Form.{byteAt, part};
 ghost use Rattle.table.specs.Events.{eventsOf};
 ghost use Rattle.facts.specs.Sound.{One, Two};
 use events::Link;

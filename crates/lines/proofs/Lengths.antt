@@ -18,7 +18,7 @@ use Rattle.findings.specs.Family.{inOrder, nameOf}
 use Rattle.model.specs.Table.{Table}
 use Rattle.model.specs.WellFormed.{WellFormed}
 use Rattle.model.specs.Findings.{Report, Reports}
-use Rattle.model.proofs.Within.{witness-fits}
+use Rattle.model.proofs.Shown.{witness-fits}
 use Rattle.refusals.specs.declared.Told.{Told}
 use Rattle.text.specs.Text.{decimal, each, spaced, spacedEach}
 use Rattle.text.proofs.Laws.{decimal-one, decimal-longer}

@@ -1,6 +1,5 @@
 -- Pieces of text, what was found read again, how long the texts can be, and the text of an answer.
 pub mod Pieces
-pub mod Cycles
 pub mod Reading
 pub mod Lengths
 pub mod Answering

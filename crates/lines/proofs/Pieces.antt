@@ -1,7 +1,7 @@
 -- Pieces of text, one after another: room for each, and what they make together.
 use mathlib.Core.Path.{_≡_, subst}
 use mathlib.Core.List.{List, _++_}
-use Prim.Native.Nat.{ℕ, _+_}
+use Prim.Native.Nat.{ℕ}
 use native.Mathlib.Omega.{arith}
 use lib.ListN.{length-append}
 use Rattle.text.specs.Text.{Written}

@@ -19,7 +19,7 @@ use Rattle.model.specs.Table.{Table}
 use Rattle.model.specs.Findings.{Shows, Report, Reports}
 use Rattle.lines.specs.Lines.{line, witnessText, findingLine}
 use Rattle.lines.specs.Witnesses.{witnessIn, Whole, bufferOf, witnesses, AllWhole}
-use Rattle.lines.proofs.Cycles.{Stands, no-buffer-for-one, no-buffer-for-two, in-its-buffer, stands}
+use Rattle.model.proofs.Shown.{Stands, no-buffer-for-one, no-buffer-for-two, in-its-buffer, stands}
 
 -- one line, by what was found of the finding and the buffer of its cycle
 module _ (x : Findings) (first second : List ℕ) (f : Finding) {found : Found} {records : List ℕ} (is-found : found ≡ foundOf x f) (is-records : records ≡ bufferOf f first second) where

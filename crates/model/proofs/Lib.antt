@@ -5,6 +5,7 @@ pub mod Fields
 pub mod Refusals
 pub mod Facts
 pub mod Within
+pub mod Shown
 pub mod Laws
 pub mod MirrorRows
 pub mod Search

@@ -1,16 +1,12 @@
 -- Each relation of a well-formed table stays inside it; po and hb lead to larger numbers; a cycle has no more records than the table.
 use Prim.Native.Nat.{ℕ, _<_}
 use native.Mathlib.Omega.{arith}
-use Rattle.laws.specs.Witness.{Witness, a-pair, record-with, pair-with, cycle-with}
 use Rattle.laws.proofs.Steps.{Within, plus-within, plus-rises}
-use Rattle.laws.proofs.Fits.{Fits, one-inside, two-inside, cycle-inside, first-inside, second-inside}
-use Rattle.findings.specs.declared.Finding.{Finding}
-use Rattle.findings.specs.declared.Finding.the-variants.{R, A1, A2, A3, A4, W}
+use Rattle.findings.specs.declared.Finding.the-variants.{R}
 use Rattle.model.specs.Table.{Table, Inside, Parent, Source}
 use Rattle.model.specs.Relations.{Po, AtOrAbove, equal, above, Sw, PoOrSw, by-po, by-sw, Hb, Race, Wb0, ScStep}
 use Rattle.model.specs.WellFormed.{WellFormed}
-use Rattle.model.specs.Findings.{Shows}
-use Rattle.model.proofs.Facts.{location-left, location-right, write-inside, sc-inside, parent-inside, read-inside, parent-earlier, source-inside, source-is-earlier-write}
+use Rattle.model.proofs.Facts.{location-left, location-right, write-inside, sc-inside, parent-inside, parent-earlier, source-inside, source-is-earlier-write}
 
 -- what comes with a relation that stays inside stays inside
 pub within-by : {n : ℕ} {R S : ℕ → ℕ → Type 0} → ((a b : ℕ) → S a b → R a b) → Within n R → Within n S
@@ -65,18 +61,6 @@ module _ {t : Table} (ok : WellFormed t) where
 
   pub sc-step-within : Within (t .count) (ScStep t)
   sc-step-within = record { left = λ {a} s. sc-inside ok a (s .sc-a); right = λ {a} {b} s. sc-inside ok b (s .sc-b) }
-
-  -- what shows a finding is made of records of the table
-  pub witness-fits : (f : Finding) {w : Witness} → Shows t f w → Fits (t .count) w
-  witness-fits R (record-with {n = r} s) = one-inside (read-inside ok r (s .reads))
-  witness-fits A1 (cycle-with {c = c} s) = cycle-inside wb0-within c s
-  witness-fits A2 (pair-with s) = two-inside (hb-within .left (s .before)) (hb-within .right (s .before))
-  witness-fits A3 (pair-with s) = two-inside (hb-within .left (s .before)) (hb-within .right (s .before))
-  witness-fits A4 (cycle-with {c = c} s) = cycle-inside sc-step-within c s
-  witness-fits W (pair-with s) = two-inside (race-within .left (s .race)) (race-within .right (s .race))
-
-  pub pair-within : (f : Finding) → Within (t .count) (λ p q. Shows t f (a-pair (record { first = p; second = q })))
-  pair-within f = record { left = λ s. first-inside (witness-fits f s); right = λ s. second-inside (witness-fits f s) }
 
   -- ---- po and hb lead to larger numbers
 

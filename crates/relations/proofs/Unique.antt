@@ -2,19 +2,16 @@
 use mathlib.Core.Path.{_≡_}
 use mathlib.Core.Bool.{Bool}
 use mathlib.Core.List.{List}
-use Prim.Native.Nat.{ℕ, _+_, _*_, _<_}
-use lib.ListN.{getD}
+use Prim.Native.Nat.{ℕ}
 use Rattle.laws.specs.Says.{Says}
 use Rattle.laws.specs.Witness.{Witness}
 use Rattle.laws.proofs.Says.{says-one}
 use Rattle.findings.specs.declared.Finding.{Finding}
 use Rattle.model.specs.Table.{Table}
-use Rattle.model.specs.Relations.{Race, EarlierRace, StandsOnRace}
+use Rattle.model.specs.Relations.{EarlierRace, StandsOnRace}
 use Rattle.model.specs.Findings.{ShowsR, Shows}
 use Rattle.matrix.specs.Matrix.{Made}
-use Rattle.matrix.proofs.Bytes.{bit-one}
 use Rattle.matrix.proofs.Unique.{made-one}
-use Rattle.relations.specs.Given.{Given}
 
 -- `race_matrix`, and each of the seven of `make_all`
 pub one-matrix : {n : ℕ} {R : ℕ → ℕ → Type 0} {m m₁ m₂ : List ℕ} → Made n n R m m₁ → Made n n R m m₂ → m₁ ≡ m₂

@@ -14,7 +14,7 @@ use Rattle.model.specs.WellFormed.{Refused6, Refused7, Refused8}
 use Rattle.table.specs.declared.Checked.the-variants.{Fine, Faulty}
 use Rattle.table.specs.Events.{recordOf, eventsOf}
 use Rattle.table.specs.Test.{Decodes, FaultAt, by-bytes, by-6, by-7, by-8, Passes, CheckAnswer, passes, faulty}
-use Rattle.table.specs.Computed.{judged, parentFault, sourceFault, twinFault, checked}
+use Rattle.table.specs.Computed.{judged, checked}
 use Rattle.table.proofs.Unique.{check-one}
 use Rattle.table.proofs.Telling.{says-6, says-7, says-8}
 

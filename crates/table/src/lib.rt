@@ -5,7 +5,7 @@ mod stored;
 
 ghost use mathlib.Core.Path.{_≡_};
 ghost use mathlib.Core.List.{_++_};
-ghost use Prim.Native.Nat.{_*_, _/_, _≤_};
+ghost use Prim.Native.Nat.{_*_, _≤_};
 ghost use lib.ListN.{length, take};
 ghost use Rattle.record.specs.declared.Decoded.the-variants.{Good};
 ghost use Rattle.record.specs.Form.{recordSize, encode};

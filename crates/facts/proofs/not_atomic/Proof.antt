@@ -2,8 +2,7 @@
 use mathlib.Core.Path.{ap, _∙_}
 use Prim.Native.Nat.{ℕ}
 use lib.Dec.{eqb}
-use Rattle.events.specs.declared.Order.{Order}
-use Rattle.events.specs.Words.{isNA, codeOf}
+use Rattle.events.specs.Words.{isNA}
 use Rattle.facts.proofs.Bytes.{na-by-code}
 use borrow.Author.Needs.{needs}
 use Rattle.facts.proofs.not_atomic.Statement.{statement}

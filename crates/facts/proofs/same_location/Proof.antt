@@ -15,7 +15,9 @@ first-requires-2 : tie.Need-byte-requires-3
 first-requires-2 c κs = (first-of (c .before .before .before .pre), omega arith)
 
 second-requires-2 : tie.Need-byte-requires-4
-second-requires-2 c κs = (second-of (c .before .before .before .before .pre), omega arith)
+second-requires-2 c κs =
+    let entry = c .before .before .before .before in
+    (second-of (entry .pre), omega arith)
 
 returns : tie.Need-returns
 returns c =

@@ -2,8 +2,7 @@
 use mathlib.Core.Path.{ap, _∙_}
 use Prim.Native.Nat.{ℕ}
 use lib.Dec.{eqb}
-use Rattle.events.specs.declared.Order.{Order}
-use Rattle.events.specs.Words.{isSC, codeOf}
+use Rattle.events.specs.Words.{isSC}
 use Rattle.facts.proofs.Bytes.{sc-by-code}
 use borrow.Author.Needs.{needs}
 use Rattle.facts.proofs.sequential.Statement.{statement}

@@ -13,7 +13,9 @@ returns c =
     no-room-for (made .put-answer .ensures) (entry .args .out .now) (omega (arith, c .if1 .taken))
 
 slice-aggregate-put : tie.Need-slice-aggregate-put
-slice-aggregate-put c = sym (text-long (c .before .before .before .before .put-answer .ensures))
+slice-aggregate-put c =
+    let put-answer = c .before .before .before .before .put-answer in
+    sym (text-long (put-answer .ensures))
 
 put-requires : tie.Need-put-requires
 put-requires c κs =

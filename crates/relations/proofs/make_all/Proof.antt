@@ -49,7 +49,8 @@ race-matrix-requires c κs =
 
 wb0-matrix-requires : tie.Need-wb0-matrix-requires
 wb0-matrix-requires c κs =
-    let hb = at-hb (c .before .before .before .before) in
+    let entry-2 = c .before .before .before .before in
+    let hb = at-hb (entry-2) in
     let (counted, lent) = entry (at-po (at-cf hb)) .pre in
     (counted, made-given (lent .for-hb) (hb .hb-matrix .ensures), lent .for-wb0)
 

@@ -1,8 +1,8 @@
 -- `put_each` meets its contract: in the loop the first i numbers stand, each after a space.
-use Prim.Native.Nat.{ℕ, _≤_, _-_, _+_}
-use mathlib.Core.Path.{_≡_, sym, ap, subst, _∙_}
+use Prim.Native.Nat.{ℕ, _≤_, _-_}
+use mathlib.Core.Path.{_≡_, ap}
 use native.Mathlib.Omega.{arith}
-use lib.ListN.{length, take, getD}
+use lib.ListN.{length, take}
 use borrow.Author.Needs.{needs}
 use Rattle.text.specs.Text.{Written, spaced, spacedEach}
 use Rattle.text.proofs.Laws.{written-length, written-nothing, each-room, each-more}

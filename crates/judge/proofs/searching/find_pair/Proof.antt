@@ -2,12 +2,11 @@
 use mathlib.Core.Path.{_≡_, refl}
 use Prim.Native.Nat.{_-_, _≤_}
 use native.Mathlib.Omega.{arith}
-use borrow.Author.Needs.{needs}
 use Rattle.laws.proofs.Says.{said, denied}
 use Rattle.laws.proofs.Passed.{Passed, passed-none, passed-more, passed-row, passed-all, passed-found}
 use Rattle.findings.specs.declared.Found.the-variants.{Nothing}
 use Rattle.findings.proofs.Meant.{found-pair, found-no-pair}
-use Rattle.model.proofs.Within.{pair-within}
+use Rattle.model.proofs.Shown.{pair-within}
 use Rattle.table.specs.Events.{eventsOf}
 use Rattle.facts.proofs.Records.{formed, within-count}
 use Rattle.judge.specs.Parts.{PairShows}

@@ -1,7 +1,6 @@
 -- `searching::find_read` meets its contract: no record below r is an unjustified read.
 use Prim.Native.Nat.{ℕ, _-_, _<_, _≤_}
 use native.Mathlib.Omega.{arith}
-use borrow.Author.Needs.{needs}
 use borrow.Author.Count.{below-more}
 use Rattle.laws.specs.Least.{Least}
 use Rattle.laws.proofs.Says.{said, denied}

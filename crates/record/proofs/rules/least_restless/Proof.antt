@@ -1,5 +1,5 @@
 -- `rules::least_restless` meets its contract: every byte before i rests where it should.
-use mathlib.Core.Path.{_≡_, sym, subst, _∙_}
+use mathlib.Core.Path.{sym, _∙_}
 use mathlib.Core.List.{List}
 use Prim.Native.Nat.{ℕ, _-_, _<_, _≤_}
 use native.Mathlib.Omega.{arith}
@@ -13,13 +13,13 @@ use Rattle.record.specs.Form.{restsAt}
 use Rattle.record.proofs.rules.least_restless.Statement.{statement}
 use Rattle.record.proofs.rules.least_restless.Tie as tie
 
-pub record Rested-before (b : List ℕ) (i : ℕ) : Type 0 where
+record RestedBefore (b : List ℕ) (i : ℕ) : Type 0 where
   pub from : 6 ≤ i
   pub to : i ≤ 16
   pub rested : (j : ℕ) → j < i → 6 ≤ j → T (restsAt b j)
 
 abbrev Inv-loop : tie.InvT-loop
-Inv-loop b i₀ i = Rested-before b i
+Inv-loop b i₀ i = RestedBefore b i
 
 abbrev μ-loop : tie.MeasureT-loop
 μ-loop b i₀ i = 16 - i

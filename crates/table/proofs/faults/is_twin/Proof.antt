@@ -1,5 +1,5 @@
 -- `faults::is_twin` meets its contract: the other record is read only where its parent and thread are the same.
-use mathlib.Core.Path.{_≡_, sym, _∙_}
+use mathlib.Core.Path.{_≡_, _∙_}
 use mathlib.Core.Bool.{Bool, _&&_}
 use Prim.Native.Nat.{ℕ}
 use lib.Dec.{eqb}

@@ -1,12 +1,11 @@
 -- `faults::thread_stood` meets its contract: what was found is what a search below m finds.
-use mathlib.Core.Path.{_≡_, refl, ap}
+use mathlib.Core.Path.{_≡_, ap}
 use Prim.Native.Nat.{ℕ, _-_, _≤_}
 use native.Mathlib.Omega.{arith}
 use lib.Dec.{eqb}
-use Rattle.laws.specs.Says.{anyBelow}
 use Rattle.table.specs.Computed.{stood}
 use Rattle.table.specs.Events.{eventsOf}
-use Rattle.table.proofs.Search.{any-more}
+use Rattle.table.proofs.Search.{any-none, any-more}
 use Rattle.table.proofs.Standing.{stands-one}
 use borrow.Author.Needs.{needs}
 use Rattle.table.proofs.faults.thread_stood.Statement.{statement}
@@ -17,14 +16,6 @@ Inv-loop table n thread found₀ m₀ found m = (found ≡ stood (eventsOf table
 
 abbrev μ-loop : tie.MeasureT-loop
 μ-loop table n thread found₀ m₀ found m = n - m
-
-loop-holds : tie.Need-loop-holds Inv-loop μ-loop
-unfolding anyBelow
-loop-holds c = (refl, omega arith)
-
-thread-at-requires : tie.Need-thread-at-requires Inv-loop μ-loop
-thread-at-requires c κs =
-    stands-one (c .before .before .before .pre) _ (omega arith)
 
 loop-again : tie.Need-loop-again Inv-loop μ-loop
 loop-again c =
@@ -39,4 +30,4 @@ returns c =
     rw (← e) (l .inv .0)
 
 pub thread-stood-spec : {M : Type 1} → statement M
-thread-stood-spec = tie.close (tie.spec Inv-loop μ-loop loop-holds thread-at-requires (search needs) (search needs) loop-again returns)
+thread-stood-spec = tie.close (tie.spec Inv-loop μ-loop (λ c. (any-none _, omega arith)) (λ c κs. stands-one (c .before .before .before .pre) _ (omega arith)) (search needs) (search needs) loop-again returns)

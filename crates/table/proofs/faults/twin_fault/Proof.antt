@@ -1,11 +1,10 @@
 -- `faults::twin_fault` meets its contract: what was found is what a search below m finds.
-use mathlib.Core.Path.{_≡_, refl}
-use Prim.Native.Nat.{ℕ, _-_, _≤_}
+use mathlib.Core.Path.{_≡_}
+use Prim.Native.Nat.{_-_, _≤_}
 use native.Mathlib.Omega.{arith}
-use Rattle.laws.specs.Says.{anyBelow}
 use Rattle.table.specs.Computed.{twinFault}
 use Rattle.table.specs.Events.{eventsOf}
-use Rattle.table.proofs.Search.{any-more}
+use Rattle.table.proofs.Search.{any-none, any-more}
 use Rattle.table.proofs.Standing.{stands-one}
 use borrow.Author.Needs.{needs}
 use Rattle.table.proofs.faults.twin_fault.Statement.{statement}
@@ -16,14 +15,6 @@ Inv-loop table n new found₀ m₀ found m = (found ≡ twinFault (eventsOf tabl
 
 abbrev μ-loop : tie.MeasureT-loop
 μ-loop table n new found₀ m₀ found m = n - m
-
-loop-holds : tie.Need-loop-holds Inv-loop μ-loop
-unfolding anyBelow
-loop-holds c = (refl, omega arith)
-
-is-twin-requires : tie.Need-is-twin-requires Inv-loop μ-loop
-is-twin-requires c κs =
-    stands-one (c .before .before .before .pre) _ (omega arith)
 
 loop-again : tie.Need-loop-again Inv-loop μ-loop
 loop-again c =
@@ -37,4 +28,4 @@ returns c =
     rw (← e) (l .inv .0)
 
 pub twin-fault-spec : {M : Type 1} → statement M
-twin-fault-spec = tie.close (tie.spec Inv-loop μ-loop loop-holds is-twin-requires (search needs) (search needs) loop-again returns)
+twin-fault-spec = tie.close (tie.spec Inv-loop μ-loop (λ c. (any-none _, omega arith)) (λ c κs. stands-one (c .before .before .before .pre) _ (omega arith)) (search needs) (search needs) loop-again returns)
