@@ -4,6 +4,7 @@ use events::Order;
 use events::Record;
 use events::Value;
 use record::link_from;
+use record::order_from;
 use record::places::FLAGS;
 use record::places::KIND;
 use record::places::LOAD;
@@ -23,16 +24,6 @@ use record::places::WRITTEN_HIGH;
 // Two bytes as a number, low byte first.
 pub fn word_of(low: u8, high: u8) -> u16 {
     (low as u16) + 256 * (high as u16)
-}
-
-fn order_of(code: u8) -> Order {
-    match code {
-        Order::ACQ => Order::Acq,
-        Order::REL => Order::Rel,
-        Order::AR => Order::Ar,
-        Order::SC => Order::Sc,
-        _ => Order::Na,
-    }
 }
 
 fn value_of(u: bool, number: u16) -> Value {
@@ -65,7 +56,7 @@ pub fn record_of(b: &[u8; SIZE]) -> Record {
     let flags = b[FLAGS];
     let read = value_of(flags % 2 == 1, word_of(b[READ], b[READ_HIGH]));
     let written = value_of(2 <= flags, word_of(b[WRITTEN], b[WRITTEN_HIGH]));
-    let event = event_of(b[KIND], order_of(b[ORDER]), b[LOCATION], read, written);
+    let event = event_of(b[KIND], order_from(b[ORDER]), b[LOCATION], read, written);
     Record {
         thread: b[THREAD],
         parent: link_from(b[PARENT]),

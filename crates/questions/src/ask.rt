@@ -1,4 +1,6 @@
 // The four kinds of question: each is read whole and answered; each part of an answer ends its line, and an empty line ends each answer.
+ghost use Prim.Native.Nat.{_≤_};
+ghost use lib.ListN.{length};
 use crate::input::filled;
 use crate::input::next_selection;
 use crate::input::next_word;
@@ -32,10 +34,17 @@ fn say_hex(bytes: &[u8]) -> bool {
     say::bytes(Form::Hex, b"", bytes) & end_line()
 }
 
+// The first bytes.
+fn say_front(text: &[u8], len: usize) -> bool
+    requires { ⌜ len ≤ length (now text) ⌝ }
+{
+    say::text(&text[0..len])
+}
+
 fn say_report(table: &[u8]) -> bool {
     let mut out = [0u8; TEXT];
     match write_answer(table, &mut out) {
-        Wrote::Length(len) => say::text(&out[..len]),
+        Wrote::Length(len) => say_front(&out, len),
         Wrote::Refused(r) => say::refusal(r) & end_line(),
     }
 }

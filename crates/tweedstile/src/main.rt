@@ -1,4 +1,6 @@
 // Judges the table on standard input, and writes its report to standard output.
+ghost use Prim.Native.Nat.{_≤_};
+ghost use lib.ListN.{length};
 use limits::LIMIT;
 use lines::TEXT;
 use lines::Wrote;
@@ -8,8 +10,11 @@ use record::places::SIZE;
 // One record more than a table may have: a longer input is refused by what is read of it.
 const MOST: usize = SIZE * LIMIT + SIZE;
 
-fn write_out(text: &[u8]) {
-    if !io::write_all(libc::STDOUT_FILENO, text) {
+// The first bytes.
+fn write_out(text: &[u8], len: usize)
+    requires { ⌜ len ≤ length (now text) ⌝ }
+{
+    if !io::write_all(libc::STDOUT_FILENO, &text[0..len]) {
         os::fail(b"output");
     }
 }
@@ -17,7 +22,7 @@ fn write_out(text: &[u8]) {
 fn answer(table: &[u8]) {
     let mut out = [0u8; TEXT];
     match write_answer(table, &mut out) {
-        Wrote::Length(len) => write_out(&out[..len]),
+        Wrote::Length(len) => write_out(&out, len),
         Wrote::Refused(_) => os::fail(b"report"),
     }
 }

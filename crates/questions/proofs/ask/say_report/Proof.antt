@@ -1,22 +1,15 @@
 -- `ask::say_report` is safe and ends: what was written has room in what was lent.
-use mathlib.Core.Path.{sym}
-use lib.Seq.{length-take-le}
 use borrow.Author.Needs.{needs}
 use Rattle.lines.proofs.Written.{length-within}
 use Rattle.questions.proofs.ask.say_report.Statement.{statement}
 use Rattle.questions.proofs.ask.say_report.Tie as tie
 
-array-share-prefix-out : tie.Need-array-share-prefix-out
-array-share-prefix-out c =
-    let wrote = c .before .before .before .before in
-    length-within (wrote .write-answer .ensures) (c .before .len .given .1)
-
-slice-aggregate-text : tie.Need-slice-aggregate-text
-slice-aggregate-text c =
+say-front-requires : tie.Need-say-front-requires
+say-front-requires c κs =
     let wrote = c .before .before .before .before .before in
-    sym (length-take-le _ _ (length-within (wrote .write-answer .ensures) (c .before .before .len .given .1)))
+    length-within (wrote .write-answer .ensures) (c .before .before .len .given .1)
 
 pub say-report-spec : {M : Type 1} → statement M
 say-report-spec =
     tie.close
-    (tie.spec (search needs) (λ c κs. search needs) (search needs) array-share-prefix-out slice-aggregate-text (λ c κs. search needs) (search needs) (λ c κs. search needs) (λ c κs. search needs) (search needs) (search needs))
+    (tie.spec (search needs) (λ c κs. search needs) (search needs) (search needs) say-front-requires (search needs) (λ c κs. search needs) (λ c κs. search needs) (search needs) (search needs))
