@@ -1,4 +1,8 @@
 // Records by their parts.
+ghost use mathlib.Core.Path.{_≡_};
+ghost use Rattle.events.specs.declared.Event.the-variants.{Init, Load, Store};
+ghost use Rattle.events.specs.declared.Link.the-variants.{Absent, To};
+ghost use Rattle.events.specs.declared.Value.the-variants.{U, Known};
 use events::Event;
 use events::Link;
 use events::Order;
@@ -6,7 +10,9 @@ use events::Record;
 use events::Value;
 
 // "an Init of thread 0 without parent"
-pub fn root() -> Record {
+pub fn root() -> Record
+    ensures { λ r. ⌜ r ≡ record { thread = 0; parent = Absent; source = Absent; event = Init } ⌝ }
+{
     Record {
         thread: 0,
         parent: Link::Absent,
@@ -15,7 +21,9 @@ pub fn root() -> Record {
     }
 }
 
-pub fn init(thread: u8, parent: u8) -> Record {
+pub fn init(thread: u8, parent: u8) -> Record
+    ensures { λ r. ⌜ r ≡ record { thread = thread; parent = To parent; source = Absent; event = Init } ⌝ }
+{
     Record {
         thread,
         parent: Link::To(parent),
@@ -24,7 +32,9 @@ pub fn init(thread: u8, parent: u8) -> Record {
     }
 }
 
-pub fn store(order: Order, thread: u8, parent: u8, location: u8, value: u16) -> Record {
+pub fn store(order: Order, thread: u8, parent: u8, location: u8, value: u16) -> Record
+    ensures { λ r. ⌜ r ≡ record { thread = thread; parent = To parent; source = Absent; event = Store order location (Known value) } ⌝ }
+{
     Record {
         thread,
         parent: Link::To(parent),
@@ -38,7 +48,9 @@ pub fn store(order: Order, thread: u8, parent: u8, location: u8, value: u16) -> 
 }
 
 // A load of a number.
-pub fn load(order: Order, thread: u8, parent: u8, source: u8, location: u8, value: u16) -> Record {
+pub fn load(order: Order, thread: u8, parent: u8, source: u8, location: u8, value: u16) -> Record
+    ensures { λ r. ⌜ r ≡ record { thread = thread; parent = To parent; source = To source; event = Load order location (Known value) } ⌝ }
+{
     Record {
         thread,
         parent: Link::To(parent),
@@ -52,7 +64,9 @@ pub fn load(order: Order, thread: u8, parent: u8, source: u8, location: u8, valu
 }
 
 // A load of u without a source.
-pub fn load_u(order: Order, thread: u8, parent: u8, location: u8) -> Record {
+pub fn load_u(order: Order, thread: u8, parent: u8, location: u8) -> Record
+    ensures { λ r. ⌜ r ≡ record { thread = thread; parent = To parent; source = Absent; event = Load order location U } ⌝ }
+{
     Record {
         thread,
         parent: Link::To(parent),

@@ -5,7 +5,6 @@ ghost use mathlib.Core.Path.{_≡_};
 ghost use Prim.Native.Nat.{_+_, _*_, _/_, _≤_};
 ghost use lib.ListN.{length};
 ghost use Rattle.record.specs.Form.{recordSize};
-use crate::raw::record_of;
 use crate::records::root;
 use events::Order;
 use events::Record;
@@ -24,6 +23,7 @@ use record::places::STORE;
 use record::places::THREAD;
 use record::places::UPDATE;
 use record::places::WRITTEN;
+use record::record_from;
 
 // How many characters name a record.
 pub const WIDTH: usize = 9;
@@ -72,6 +72,10 @@ fn flags_of(read: u8, written: u8) -> u8 {
     if written == b'u' { 2 } else { 0 }
 }
 
+fn record_of(bytes: [u8; SIZE]) -> Record {
+    record_from(&bytes)
+}
+
 // The record that nine characters name.
 pub fn record_named(part: &[u8]) -> Record
     requires { ⌜ length (now part) ≡ 9 ⌝ }
@@ -86,7 +90,7 @@ pub fn record_named(part: &[u8]) -> Record
     b[FLAGS] = flags_of(part[6], part[7]);
     b[READ] = number_of(part[6]);
     b[WRITTEN] = number_of(part[7]);
-    record_of(&b)
+    record_of(b)
 }
 
 // Record n of a script.

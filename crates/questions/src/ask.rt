@@ -12,10 +12,10 @@ use events::Record;
 use lines::TEXT;
 use lines::Wrote;
 use lines::write_answer;
-use programs::raw::record_of;
 use programs::say;
 use programs::say::Form;
 use record::places::SIZE;
+use record::record_from;
 use table::FetchTest;
 use table::fetch;
 use table::refusal_of_fetch;
@@ -110,7 +110,7 @@ pub fn take_append() -> bool {
         return false;
     }
     let mut buffer = [0u8; MOST];
-    append_filled(&mut buffer[0..len], used, record_of(&new))
+    append_filled(&mut buffer[0..len], used, record_from(&new))
 }
 
 fn say_fetch_test(table: &[u8], asked: usize) -> bool {

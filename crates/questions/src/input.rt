@@ -1,5 +1,5 @@
 // What a question holds, from standard input.
-use programs::raw::word_of;
+use record::word_of;
 
 // Fills the bytes; whether it could.
 pub fn filled(bytes: &mut [u8]) -> bool {

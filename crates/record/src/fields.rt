@@ -48,7 +48,8 @@ pub fn link_from(byte: u8) -> Link
     }
 }
 
-fn word_of(low: u8, high: u8) -> u16
+// Two bytes as a number, low byte first.
+pub fn word_of(low: u8, high: u8) -> u16
     ensures { λ r. ⌜ r ≡ low + 256 * high ⌝ }
 {
     (low as u16) + 256 * (high as u16)

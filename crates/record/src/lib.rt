@@ -11,6 +11,8 @@ ghost use Rattle.record.specs.Form.{recordSize, decode, part, encode, ov
 use events::Record;
 pub use fields::link_from;
 pub use fields::order_from;
+pub use fields::record_from;
+pub use fields::word_of;
 use places::SIZE;
 use refusals::Fault;
 use rules::ByteTest;
