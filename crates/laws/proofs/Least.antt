@@ -7,7 +7,7 @@ use Prim.Native.Nat.{ℕ, _<_, _≤_}
 use native.Mathlib.Omega.{arith}
 use lib.ListN.{length}
 use Rattle.laws.specs.Steps.{Walk, IsCycle}
-use Rattle.laws.specs.Least.{Least, Pair, PairAtMost, by-first, by-second, ListAtMost, CycleAtMost, fewer, as-many, LeastNumber, LeastCycle}
+use Rattle.laws.specs.Least.{Least, Pair, PairAtMost, by-first, by-second, ListAtMost, CycleAtMost, fewer, as-many, LeastNumber}
 
 -- two least witnesses by an order in which two that are each at most the other are one
 pub least-one :
@@ -49,9 +49,6 @@ cycle-one c d (as-many e h) (as-many f k) = list-one c d e h k
 pub number-unique : {P : ℕ → Type 0} {x y : Option ℕ} → LeastNumber P x → LeastNumber P y → x ≡ y
 number-unique = least-one number-one
 
-pub cycle-unique : {R : ℕ → ℕ → Type 0} {x y : Option (List ℕ)} → LeastCycle R x → LeastCycle R y → x ≡ y
-cycle-unique = least-one cycle-one
-
 -- what shows the one finding shows the other, and the other way round
 pub least-iff :
     {A : Type 0} {AtMost : A → A → Type 0} {P Q : A → Type 0} → ((a : A) → P a → Q a) → ((a : A) → Q a → P a) → {x : Option A} → Least AtMost P x → Least AtMost Q x
@@ -65,7 +62,3 @@ walk-to f a (x ∷ xs) b w = (f a x (w .0), walk-to f x xs b (w .1))
 pub cycle-to : {R S : ℕ → ℕ → Type 0} → ((a b : ℕ) → R a b → S a b) → (c : List ℕ) → IsCycle R c → IsCycle S c
 cycle-to f [] c = c
 cycle-to f (a ∷ xs) c = (c .0, walk-to f a xs a (c .1))
-
-pub least-cycle-iff :
-    {R S : ℕ → ℕ → Type 0} → ((a b : ℕ) → R a b → S a b) → ((a b : ℕ) → S a b → R a b) → {x : Option (List ℕ)} → LeastCycle R x → LeastCycle S x
-least-cycle-iff f g = least-iff (cycle-to f) (cycle-to g)

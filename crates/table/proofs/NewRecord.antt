@@ -35,7 +35,7 @@ module _ (b : List ℕ) (n : ℕ) (r : Record) (held : 16 * n ≤ length b) wher
   pub new-exact : CheckAnswer (front ++ encode r) n (checked (eventsOf b .at) n (decode (encode r)))
   new-exact = rw new-part at (check-exact b (front ++ encode r) n (λ m h. front-part b n held m h ∙ sym (front-kept m h)))
 
-  -- with a record that passes, all pass
+  -- with a record that passes, all pass (for request W12: a good append leaves a sound table)
   pub new-sound : ((m : ℕ) → m < n → Passes front m) → Passes (front ++ encode r) n → RecordsAnswer (front ++ encode r) (Sound (n + 1))
   new-sound passed last =
       subst (λ (k : ℕ). RecordsAnswer (front ++ encode r) (Sound k)) count (sound (λ m h. go m (decLt m n) (omega (arith, count))))

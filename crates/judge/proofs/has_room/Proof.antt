@@ -1,4 +1,4 @@
--- `has_room` meets its contract.
+-- `has_room` meets its contract: the two tests tell the two parts.
 use Rattle.laws.proofs.Says.{says-le, says-and}
 use Rattle.judge.proofs.has_room.Statement.{statement}
 use Rattle.judge.proofs.has_room.Tie as tie
