@@ -1,5 +1,6 @@
 // A quick test for no cycle: a number gets a rank once all that leads to it has one.
 use matrix::row::has;
+use numbers::wide;
 ghost use mathlib.Core.Bool.{true};
 ghost use mathlib.Core.Option.{none};
 ghost use mathlib.Core.Path.{_≡_};
@@ -22,12 +23,6 @@ fn advance(m: &[u8], rank: &[u8], n: usize, v: usize, from: usize) -> usize
         }
     }
     n
-}
-
-fn wide(x: u8) -> usize
-    ensures { λ r. ⌜ (r ≡ x) × (r < 256) ⌝ }
-{
-    x as usize
 }
 
 // A rank for v, if all that leads to it has one. Returns the last rank given.

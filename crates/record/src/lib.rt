@@ -18,13 +18,6 @@ use refusals::Fault;
 use rules::ByteTest;
 pub use written::bytes_of;
 
-// A byte that is the number of a record, as an index.
-pub fn wide(byte: u8) -> usize
-    ensures { λ r. ⌜ r ≡ byte ⌝ }
-{
-    byte as usize
-}
-
 // What sixteen bytes are: a record, or which of the refusals 2 to 5 they get.
 pub enum Decoded {
     Good(Record),

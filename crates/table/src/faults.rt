@@ -17,7 +17,7 @@ use crate::stored::thread_at;
 use events::Link;
 use events::Record;
 use events::Value;
-use record::wide;
+use numbers::wide;
 
 // "an Init of thread 0 without parent"
 fn is_root(new: Record) -> bool

@@ -4,6 +4,7 @@ ghost use mathlib.Core.List.{[], _∷_};
 ghost use Prim.Native.Nat.{_+_, _%_, _≤_};
 ghost use lib.ListN.{length, take};
 ghost use Rattle.text.specs.Text.{Written, decimal, spaced, spacedEach};
+use numbers::wide;
 
 // Writes the bytes of `piece` at `at`; returns the place after them.
 pub fn put(out: &mut [u8], at: usize, piece: &[u8]) -> usize
@@ -48,12 +49,6 @@ pub fn put_spaced(out: &mut [u8], at: usize, n: usize) -> usize
 {
     let next = put_byte(out, at, 32);
     put_decimal(out, next, n)
-}
-
-fn wide(x: u8) -> usize
-    ensures { λ r. ⌜ r ≡ x ⌝ }
-{
-    x as usize
 }
 
 // Writes the first `count` bytes of `numbers` as numbers, each after one space.

@@ -14,12 +14,12 @@ entry c = c .before .before .before .before .before .before .before .before .bef
 
 moved-on : (c : tie.After-advance)
     → Ranks (entry c .args .n) (entry c .args .m .now) (set (entry c .args .next .now) (entry c .args .v) (c .advance .result)) (entry c .args .rank .now) (entry c .args .count)
-moved-on c = let s = entry c in moved (s .pre .0 .ranks) (omega arith) (rw (c .before .before .wide .ensures .0) at (c .advance .ensures))
+moved-on c = let s = entry c in moved (s .pre .0 .ranks) (omega arith) (rw (c .before .before .wide .ensures) at (c .advance .ensures))
 
 advance-requires : tie.Need-advance-requires
 advance-requires c κs =
     let s = c .before .before .before .before .before .before .before .before .before in
-    (omega arith, omega arith, omega arith, omega (arith, s .pre .0 .ranks .within (s .args .v) (omega arith), c .before .wide .ensures .0))
+    (omega arith, omega arith, omega arith, omega (arith, s .pre .0 .ranks .within (s .args .v) (omega arith), c .before .wide .ensures))
 
 returns-4 : tie.Need-returns-4
 returns-4 c =
