@@ -20,8 +20,8 @@ use limits::LIMIT;
 use precedence::upward::conflict_matrix;
 use precedence::upward::hb_matrix;
 use relations::race::race_matrix;
-use relations::reads::races_earlier;
-use relations::reads::stands_on_race;
+use shown::reads::races_earlier;
+use shown::reads::stands_on_race;
 
 // Which record is the least that lacks something.
 pub enum Lack {

@@ -4,7 +4,4 @@ pub mod Making
 pub mod Keeping
 pub mod Owning
 pub mod Detours
-pub mod Seeking
-pub mod Reading
-pub mod Showing
 pub mod Unique

@@ -8,8 +8,6 @@ use Rattle.events.specs.declared.Link.the-variants.{To}
 use Rattle.laws.specs.Says.{Says}
 use Rattle.laws.proofs.Says.{says-no, says-iff}
 use Rattle.model.specs.Table.{Table, Source, NoSource}
-use Rattle.model.specs.Relations.{Conflict, Hb}
-use Rattle.model.specs.Findings.{ShowsA3}
 use Rattle.model.proofs.Fields.{absent-to}
 use Rattle.model.proofs.Facts.{one-source, has-source}
 use Rattle.model.proofs.Within.{source-within}
@@ -53,11 +51,3 @@ told-of-source placed given =
     let low = within-count (placed .table) (source-within (formed (placed .table))) in
     says-iff (λ z. record { s = z .s; source = z .source; related = of-cell (given .holds) (z .related) })
     (λ z. record { s = z .s; source = z .source; related = cell-of (given .holds) (low .left (z .source)) (placed .row) (z .related) })
-
--- A3, asked of the later record's source
-pub says-A3 :
-    {t : Table} {p q : ℕ} {x : Bool} → Says x (FromSource t (λ s r. Hb t r q × FromSource t (Conflict t) r s) q p) → Says x (ShowsA3 t p q)
-says-A3 =
-    says-iff
-    (λ z. record { before = z .related .0; s′ = z .related .1 .s; s = z .s; source′ = z .related .1 .source; source = z .source; conflict = z .related .1 .related })
-    (λ z. record { s = z .s; source = z .source; related = (z .before, record { s = z .s′; source = z .source′; related = z .conflict }) })

@@ -4,5 +4,4 @@ pub mod Between
 pub mod FromTwo
 pub mod Kept
 pub mod Owners
-pub mod Reads
 pub mod Worked

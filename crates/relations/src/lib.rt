@@ -3,11 +3,10 @@ mod cell;
 mod from_two;
 mod kept;
 pub mod race;
-pub mod reads;
 mod sequential;
-pub mod shown;
 mod writes;
 
+pub use crate::cell::from_source;
 use crate::race::race_matrix;
 use crate::sequential::sc_matrix;
 use crate::writes::wb_matrix;

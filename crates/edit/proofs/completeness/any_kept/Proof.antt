@@ -8,7 +8,7 @@ use Rattle.laws.specs.Says.{Says}
 use Rattle.laws.proofs.Says.{says-T, says-and}
 use Rattle.model.specs.Relations.{EarlierRace}
 use Rattle.table.specs.Events.{eventsOf}
-use Rattle.relations.proofs.Seeking.{some-none, some-more, some-all}
+use Rattle.shown.proofs.Seeking.{some-none, some-more, some-all}
 use Rattle.edit.specs.Columns.{keptBy}
 use Rattle.edit.proofs.completeness.any_kept.Statement.{statement}
 use Rattle.edit.proofs.completeness.any_kept.Tie as tie

@@ -1,0 +1,2 @@
+-- What the questions on reads ask and promise.
+pub mod Reads

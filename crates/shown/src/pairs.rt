@@ -1,0 +1,66 @@
+// Whether two records show a finding.
+use events::Link;
+use facts::source;
+use facts::writes;
+use findings::Finding;
+use matrix::row::has;
+use relations::from_source;
+ghost use Rattle.laws.specs.Says.{Says};
+ghost use Rattle.laws.specs.Witness.{a-pair};
+ghost use Rattle.model.specs.Relations.{Conflict, Hb, Race};
+ghost use Rattle.model.specs.Findings.{ShowsA2, ShowsA3, ShowsW, Shows};
+ghost use Rattle.table.specs.Events.{eventsOf};
+ghost use Rattle.facts.specs.Sound.{Placed};
+ghost use Rattle.relations.specs.Given.{Given, Pairing};
+
+// A2: "p conflicts with q and p hb q"
+fn conflict_before(table: &[u8], cf: &[u8], hb: &[u8], n: usize, p: usize, q: usize) -> bool
+    requires { ⌜ Placed (now table) n p q × (Given n (Conflict (eventsOf (now table))) (now cf) × Given n (Hb (eventsOf (now table))) (now hb)) ⌝ }
+    ensures { λ r. ⌜ Says r (ShowsA2 (eventsOf (now (table .entry))) p q) ⌝ }
+{
+    has(cf, n, p, q) & has(hb, n, p, q)
+}
+
+// A3: "r' hb r, both have sources, and the two sources conflict", with p for r' and q for r
+fn sources_conflict(table: &[u8], cf: &[u8], hb: &[u8], n: usize, p: usize, q: usize) -> bool
+    requires { ⌜ Placed (now table) n p q × (Given n (Conflict (eventsOf (now table))) (now cf) × Given n (Hb (eventsOf (now table))) (now hb)) ⌝ }
+    ensures { λ r. ⌜ Says r (ShowsA3 (eventsOf (now (table .entry))) p q) ⌝ }
+{
+    let link = source(table, q);
+    match link {
+        Link::Absent => false,
+        Link::To(s) => has(hb, n, p, q) & from_source(table, cf, n, p, s as usize),
+    }
+}
+
+// W: "two writes race", "p before q in the table"
+fn writes_race(table: &[u8], race: &[u8], n: usize, p: usize, q: usize) -> bool
+    requires { ⌜ Placed (now table) n p q × Given n (Race (eventsOf (now table))) (now race) ⌝ }
+    ensures { λ r. ⌜ Says r (ShowsW (eventsOf (now (table .entry))) p q) ⌝ }
+{
+    (p < q) & writes(table, p) & writes(table, q) & has(race, n, p, q)
+}
+
+// Whether p and q show the finding. What shows R is one record, and what shows A1 or A4 a cycle.
+pub fn shows_pair(
+    finding: Finding,
+    table: &[u8],
+    cf: &[u8],
+    hb: &[u8],
+    race: &[u8],
+    n: usize,
+    p: usize,
+    q: usize,
+) -> bool
+    requires { ⌜ Placed (now table) n p q × Pairing (eventsOf (now table)) n (now cf) (now hb) (now race) ⌝ }
+    ensures { λ r. ⌜ Says r (Shows (eventsOf (now (table .entry))) finding (a-pair (record { first = p; second = q }))) ⌝ }
+{
+    match finding {
+        Finding::R => false,
+        Finding::A1 => false,
+        Finding::A2 => conflict_before(table, cf, hb, n, p, q),
+        Finding::A3 => sources_conflict(table, cf, hb, n, p, q),
+        Finding::A4 => false,
+        Finding::W => writes_race(table, race, n, p, q),
+    }
+}
