@@ -6,7 +6,7 @@ use lib.Dec.{eqb}
 use Rattle.refusals.specs.declared.Fault.{Fault}
 use Rattle.refusals.specs.declared.Fault.the-variants.{Mark, Kind, Rest, Range, Parent, Source, Twin}
 use Rattle.refusals.specs.declared.Refusal.{Refusal}
-use Rattle.refusals.specs.declared.Refusal.the-variants.{Length, Record, Selection, Incomplete, Room, Full, Past}
+use Rattle.refusals.specs.declared.Refusal.the-variants.{Length, Record, Selection, Incomplete, Room, Full, Past, Header, Short}
 use Rattle.refusals.specs.declared.Told.{Told}
 use Rattle.refusals.specs.Numbers.{at, faultNumber, told}
 
@@ -30,7 +30,10 @@ refusalFrom x =
     cond (eqb (x .number) 1) Length
     (cond (eqb (x .number) 9) Selection
     (cond (eqb (x .number) 10) (Incomplete (x .place))
-    (cond (eqb (x .number) 11) Room (cond (eqb (x .number) 12) Full (cond (eqb (x .number) 13) (Past (x .place)) (Record (faultFrom (x .number)) (x .place)))))))
+    (cond (eqb (x .number) 11) Room
+    (cond (eqb (x .number) 12) Full
+    (cond (eqb (x .number) 13) (Past (x .place))
+    (cond (eqb (x .number) 14) (Header (x .place)) (cond (eqb (x .number) 15) (Short (x .place)) (Record (faultFrom (x .number)) (x .place)))))))))
 
 record-back : (f : Fault) (n : ℕ) → refusalFrom (at (faultNumber f) n) ≡ Record (faultFrom (faultNumber f)) n
 unfolding refusalFrom
@@ -51,6 +54,8 @@ refusal-back (Incomplete n) = refl
 refusal-back Room = refl
 refusal-back Full = refl
 refusal-back (Past n) = refl
+refusal-back (Header n) = refl
+refusal-back (Short n) = refl
 
 pub told-one : (r s : Refusal) → told r ≡ told s → r ≡ s
 told-one r s e = sym (refusal-back r) ∙ (ap refusalFrom e ∙ refusal-back s)

@@ -1,4 +1,4 @@
--- Document 01's number and place of each refusal.
+-- The number and the place of each refusal: document 01's, and those of a batch.
 use Prim.Native.Nat.{ℕ}
 use Rattle.refusals.specs.declared.Fault.{Fault}
 use Rattle.refusals.specs.declared.Fault.the-variants.{Mark, Kind, Rest, Range, Parent, Source, Twin}
@@ -30,3 +30,6 @@ told (refusal.Incomplete n) = at 10 n
 told refusal.Room = at 11 0
 told refusal.Full = at 12 0
 told (refusal.Past n) = at 13 n
+-- "at the byte where a header begins": "14 for a wrong batch mark", 15 where the batch ends too early
+told (refusal.Header n) = at 14 n
+told (refusal.Short n) = at 15 n

@@ -1,4 +1,4 @@
-// Why an operation is refused: document 01's refusals 1 to 13, each with its number and its place.
+// Why an operation is refused: the refusals 1 to 13 of document 01 and those of a batch, 14 and 15, each with its number and its place.
 ghost use mathlib.Core.Path.{_≡_};
 ghost use Rattle.refusals.specs.Numbers.{at, faultNumber, told};
 
@@ -13,7 +13,7 @@ pub enum Fault {
     Twin,
 }
 
-// Refusals 1 to 13; those with a place carry it.
+// Refusals 1 and 2 to 8, then 9 to 15; those with a place carry it.
 pub enum Refusal {
     Length,
     Record(Fault, usize),
@@ -22,6 +22,8 @@ pub enum Refusal {
     Room,
     Full,
     Past(usize),
+    Header(usize),
+    Short(usize),
 }
 
 // What is told of a refusal: its number and its place.
@@ -67,6 +69,8 @@ impl Refusal {
             Refusal::Room => Told::at(11, 0),
             Refusal::Full => Told::at(12, 0),
             Refusal::Past(n) => Told::at(13, n),
+            Refusal::Header(n) => Told::at(14, n),
+            Refusal::Short(n) => Told::at(15, n),
         }
     }
 }
