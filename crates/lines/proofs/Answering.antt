@@ -1,7 +1,7 @@
 -- The text of a table's answer fits, and stands at the front of the buffer where it was written.
 use mathlib.Core.Path.{_≡_, refl, sym, ap, subst, _∙_}
 use mathlib.Core.List.{List, _++_}
-use Prim.Native.Nat.{ℕ, _+_, _<_, _≤_}
+use Prim.Native.Nat.{ℕ, _+_, _*_, _<_, _≤_}
 use native.Mathlib.Nat.{zero-add}
 use native.Mathlib.Omega.{arith}
 use lib.ListN.{length, take, drop}
@@ -12,13 +12,17 @@ use Rattle.refusals.specs.declared.Refusal.{Refusal}
 use Rattle.refusals.specs.declared.Refusal.the-variants as refusal
 use Rattle.refusals.specs.declared.Told.{Told}
 use Rattle.refusals.specs.Numbers.{at, faultNumber, told}
+use Rattle.findings.specs.Family.{inOrder}
+use Rattle.model.specs.Findings.{Report, Reports}
 use Rattle.table.specs.declared.Tested.the-variants as tested
+use Rattle.table.specs.Events.{eventsOf}
 use Rattle.table.specs.Test.{FirstFault, first-fault, refused, TestAnswer, wrong-length, records}
 use Rattle.table.proofs.Front.{right-length}
 use Rattle.table.proofs.WellFormed.{sound-count}
 use Rattle.facts.proofs.Promise.{sound-table}
 use Rattle.text.specs.Text.{Written}
 use Rattle.text.proofs.Laws.{written-length}
+use Rattle.lines.specs.Lines.{reportText, refusedText}
 use Rattle.lines.specs.Room.{Room, longest}
 use Rattle.lines.specs.declared.Wrote.the-variants.{Refused, Length}
 use Rattle.lines.specs.Answer.{TextOf, TextAt, WriteAnswer}
@@ -47,13 +51,30 @@ told-small {b} (records ok (refused f)) = go f
     go : {x : Told} → FirstFault b x → SmallTold x
     go (first-fault {f = f} inside _ _) = record { number = fault-small f; place = omega (arith, right-length (length b) ok .within) }
 
-text-short : {b text : List ℕ} → TextOf b text → length text ≤ longest
-text-short (TextOf.refused {r = r} test) =
+refusal-long : {b : List ℕ} {r : Refusal} → TestAnswer b (tested.Refused r) → length (refusedText (told r)) ≤ 21
+refusal-long {r = r} test =
     let small = told-small test in
-    refused-short (told r) (small .number) (small .place)
-text-short {b} (TextOf.reported {n = n} test right) =
+    refused-short (told r) (small .number) (omega (arith, small .place))
+
+report-long :
+    {b : List ℕ} {n : ℕ} {x : Report} → TestAnswer b (tested.Sound n) → Reports (eventsOf b) x
+    → length (reportText n (x .witness) (x .verdict)) ≤ 32 + length inOrder * (8 + 4 * n)
+report-long {b} {n} {x} test right =
     let sound = sound-table b n test in
-    report-short (sound .formed) (sound .few) right n (omega (arith, sound .few, sound-count b n test))
+    subst (λ (k : ℕ). length (reportText k (x .witness) (x .verdict)) ≤ 32 + length inOrder * (8 + 4 * k)) (sound-count b n test)
+    (report-short (sound .formed) (sound .few) right)
+
+pub text-short : {b text : List ℕ} → TextOf b text → length text ≤ longest
+text-short (TextOf.refused test) = omega (arith, refusal-long test)
+text-short {b} (TextOf.reported {n = n} test right) =
+    omega (arith, report-long test right, sound-table b n test .few, sound-count b n test)
+
+-- six bytes for each byte of the table and of the four before it in a batch
+pub text-within : {b text : List ℕ} → TextOf b text → length text ≤ 24 + 6 * length b
+text-within (TextOf.refused test) = omega (arith, refusal-long test)
+text-within {b} (TextOf.reported {n = n} test right) =
+    let sound = sound-table b n test in
+    omega (arith, report-long test right, sound .formed .some-record, sound .size, sound-count b n test)
 
 -- ---- and is where it was written
 

@@ -1,8 +1,9 @@
--- How long the texts can be: numbers below a thousand have at most three digits.
+-- How long the texts can be: numbers below a thousand have at most three digits, the places of a batch five.
 use mathlib.Core.Path.{_≡_, ap}
 use mathlib.Core.Option.{Option, some}
 use mathlib.Core.List.{List, [], _∷_, _++_}
 use Prim.Native.Nat.{ℕ, suc, _+_, _*_, _/_, _<_, _≤_}
+use native.Mathlib.Nat.{suc-mul}
 use native.Mathlib.Omega.{arith}
 use native.Mathlib.Decide.{decLt}
 use lib.ListN.{length, length-append}
@@ -23,7 +24,6 @@ use Rattle.refusals.specs.declared.Told.{Told}
 use Rattle.text.specs.Text.{decimal, each, spaced, spacedEach}
 use Rattle.text.proofs.Laws.{decimal-one, decimal-longer}
 use Rattle.lines.specs.Lines.{line, witnessText, findingLine, linesOf, verdictText, reportText, placeText, refusedText, eventsWord, verdictWord, refusedWord, atWord}
-use Rattle.lines.specs.Room.{longest}
 
 -- one digit more for each ten times
 digits-within : (k bound n : ℕ) → n < 10 * bound → ((m : ℕ) → m < bound → length (decimal m) ≤ k) → length (decimal n) ≤ suc k
@@ -41,6 +41,9 @@ decimal-1 n h = omega (arith, ap length (decimal-one n h))
 decimal-3 : (n : ℕ) → n < 1000 → length (decimal n) ≤ 3
 decimal-3 n h = digits-within 2 100 n h (λ m l. digits-within 1 10 m l decimal-1)
 
+decimal-5 : (n : ℕ) → n < 100000 → length (decimal n) ≤ 5
+decimal-5 n h = digits-within 4 10000 n h (λ m l. digits-within 3 1000 m l decimal-3)
+
 line-length : (name rest : List ℕ) → length (line name rest) ≡ length name + length rest + 1
 line-length name rest =
     let a = length-append name (rest ++ (10 ∷ [])) in
@@ -55,7 +58,7 @@ module _ {n : ℕ} (few : n ≤ limit) where
   each-short (a ∷ l) b =
       omega (arith, length-append (spaced a) (spacedEach l), decimal-3 a (omega (arith, b .0)), each-short l (b .1))
 
-  fits-short : {w : Witness} → Fits n w → length (witnessText (some w)) ≤ 5 + 4 * limit
+  fits-short : {w : Witness} → Fits n w → length (witnessText (some w)) ≤ 5 + 4 * n
   fits-short (one-inside {r = r} h) = omega (arith, decimal-3 r (omega arith))
   fits-short (two-inside {p = p} h k) =
       omega (
@@ -66,14 +69,14 @@ module _ {n : ℕ} (few : n ≤ limit) where
       )
   fits-short (all-inside {c = c} b h) = omega (arith, each-short c b)
 
-  witness-short : {S : Witness → Type 0} {w : Option Witness} → ((v : Witness) → S v → Fits n v) → LeastWitness S w → length (witnessText w) ≤ 5 + 4 * limit
+  witness-short : {S : Witness → Type 0} {w : Option Witness} → ((v : Witness) → S v → Fits n v) → LeastWitness S w → length (witnessText w) ≤ 5 + 4 * n
   witness-short fits (Least.absent _) = omega arith
   witness-short fits (Least.least {a = v} s _) = fits-short (fits v s)
 
 -- ---- the whole texts
 
 module _ {t : Table} (ok : WellFormed t) (few : t .count ≤ limit) {x : Report} (right : Reports t x) where
-  lines-short : (fs : List Finding) → length (linesOf (x .witness) fs) ≤ length (each nameOf fs) + length fs * (6 + 4 * limit)
+  lines-short : (fs : List Finding) → length (linesOf (x .witness) fs) ≤ length (each nameOf fs) + length fs * (6 + 4 * t .count)
   lines-short [] = omega arith
   lines-short (f ∷ fs) =
       omega (
@@ -82,22 +85,23 @@ module _ {t : Table} (ok : WellFormed t) (few : t .count ≤ limit) {x : Report}
         line-length (nameOf f) (witnessText (x .witness f)),
         length-append (nameOf f) (each nameOf fs),
         witness-short few (λ v. witness-fits ok f) (right .least f),
+        suc-mul (length fs) (6 + 4 * t .count),
         lines-short fs,
       )
 
-  pub report-short : (count : ℕ) → count ≤ limit → length (reportText count (x .witness) (x .verdict)) ≤ longest
+  pub report-short : length (reportText (t .count) (x .witness) (x .verdict)) ≤ 32 + length inOrder * (8 + 4 * t .count)
   unfolding reportText
-  report-short count h =
-      let first = line eventsWord (spaced count) in
+  report-short =
+      let first = line eventsWord (spaced (t .count)) in
       let findings = linesOf (x .witness) inOrder in
       let last = line verdictWord (verdictText (x .verdict)) in
       omega (
         arith,
         length-append first (findings ++ last),
         length-append findings last,
-        line-length eventsWord (spaced count),
+        line-length eventsWord (spaced (t .count)),
         line-length verdictWord (verdictText (x .verdict)),
-        decimal-3 count (omega arith),
+        decimal-3 (t .count) (omega arith),
         lines-short inOrder,
         verdict-short (x .verdict),
       )
@@ -107,7 +111,8 @@ module _ {t : Table} (ok : WellFormed t) (few : t .count ≤ limit) {x : Report}
       verdict-short Inconsistent = omega arith
       verdict-short Consistent = omega arith
 
-pub refused-short : (told : Told) → told .number < 1000 → told .place < 1000 → length (refusedText told) ≤ longest
+-- the place is a record's number, or a byte of a batch
+pub refused-short : (told : Told) → told .number < 1000 → told .place < 100000 → length (refusedText told) ≤ 21
 unfolding refusedText
 refused-short told h k =
     omega (
@@ -116,5 +121,5 @@ refused-short told h k =
       length-append (spaced (told .number)) (atWord ++ spaced (told .place)),
       length-append atWord (spaced (told .place)),
       decimal-3 (told .number) h,
-      decimal-3 (told .place) k,
+      decimal-5 (told .place) k,
     )

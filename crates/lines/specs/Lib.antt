@@ -2,4 +2,5 @@
 pub mod Lines
 pub mod Room
 pub mod Witnesses
+pub mod Judged
 pub mod Answer

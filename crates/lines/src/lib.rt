@@ -17,6 +17,7 @@ ghost use Rattle.text.specs.Text.{Written, spaced};
 ghost use Rattle.lines.specs.Lines.{line, verdictText, eventsWord, verdictWord, reportText, placeText, refusedText};
 ghost use Rattle.lines.specs.Room.{Room, longest};
 ghost use Rattle.lines.specs.Witnesses.{witnesses, AllWhole};
+ghost use Rattle.lines.specs.Judged.{judgedText, JudgedWhole};
 ghost use Rattle.lines.specs.Answer.{TextAt, WriteAnswer};
 
 // Room for the longest text: `longest` of the definitions.
@@ -85,6 +86,21 @@ fn put_refused(out: &mut [u8], told: Told) -> usize
     put(out, rest, b"\n")
 }
 
+// The text of a judging's answer at the front of `out`, and its length; the records of its cycles stand at the front of `first` and `second`.
+pub fn put_judged<'a>(judged: Judged, first: &'a [u8], second: &'a [u8], out: &mut [u8]) -> usize
+    requires { ⌜ Room (now out) 0 (judgedText judged (now first) (now second)) × JudgedWhole judged (now first) (now second) ⌝ }
+    ensures { λ r. ⌜ Written (now (out .entry)) 0 (judgedText judged (now (first .entry)) (now (second .entry))) (now (out .exit)) r ⌝ }
+{
+    match judged {
+        Judged::Refused(r) => put_refused(out, r.told()),
+        Judged::Reported(x) => {
+            let found = x.findings;
+            let verdict = x.verdict;
+            put_report(out, x.events, found, verdict, first, second)
+        }
+    }
+}
+
 // The text of a table's answer at the front of `out`, and its length.
 fn put_answer(table: &[u8], out: &mut [u8]) -> usize
     requires { ⌜ longest ≤ length (now out) ⌝ }
@@ -92,14 +108,8 @@ fn put_answer(table: &[u8], out: &mut [u8]) -> usize
 {
     let mut first = [0u8; LIMIT];
     let mut second = [0u8; LIMIT];
-    match judge::judge(table, &mut first, &mut second) {
-        Judged::Refused(r) => put_refused(out, r.told()),
-        Judged::Reported(x) => {
-            let found = x.findings;
-            let verdict = x.verdict;
-            put_report(out, x.events, found, verdict, &first, &second)
-        }
-    }
+    let judged = judge::judge(table, &mut first, &mut second);
+    put_judged(judged, &first, &second, out)
 }
 
 // Writes the answer of a judging as text: the report's lines, or the refusal's.

@@ -130,7 +130,7 @@ module _ (before : List ℕ) (at n : ℕ) (room : at + length (decimal n) ≤ le
 -- ---- a piece for each of a list
 
 module _ {A : Type 0} (piece : A → List ℕ) where
-  each-last : (l : List A) (a : A) → each piece (l ++ (a ∷ [])) ≡ each piece l ++ piece a
+  pub each-last : (l : List A) (a : A) → each piece (l ++ (a ∷ [])) ≡ each piece l ++ piece a
   each-last [] a = append-nil (piece a)
   each-last (b ∷ l) a =
       ap (λ (x : List ℕ). piece b ++ x) (each-last l a) ∙ sym (append-assoc (piece b) (each piece l) (piece a))
