@@ -1,4 +1,4 @@
-// The four kinds of question: each is read whole and answered; each part of an answer ends its line, and an empty line ends each answer.
+// The questions about one table: each is read whole and answered; each part of an answer ends its line, and an empty line ends each answer.
 ghost use Prim.Native.Nat.{_≤_};
 ghost use lib.ListN.{length};
 use crate::input::filled;
@@ -23,14 +23,14 @@ use table::refusal_of_fetch;
 // The longest table or buffer that is handed over: wrong lengths are tried too.
 const MOST: usize = 4096;
 
-// What an output holds before a cut.
-const FILL: u8 = 0xA5;
+// What an output holds before a cut or a run over a batch.
+pub const FILL: u8 = 0xA5;
 
-fn end_line() -> bool {
+pub fn end_line() -> bool {
     say::text(b"\n")
 }
 
-fn say_hex(bytes: &[u8]) -> bool {
+pub fn say_hex(bytes: &[u8]) -> bool {
     say::bytes(Form::Hex, b"", bytes) & end_line()
 }
 

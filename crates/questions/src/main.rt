@@ -1,12 +1,14 @@
 // Answers many questions, one after another, for the comparison with the second judge (second/README.md has their form).
 mod ask;
 mod input;
+mod run;
 
 use crate::ask::take_append;
 use crate::ask::take_cut;
 use crate::ask::take_fetch;
 use crate::ask::take_judging;
 use crate::input::filled;
+use crate::run::take_batch;
 
 // The next question, if there is one; whether to go on.
 fn take_next() -> bool {
@@ -26,6 +28,9 @@ fn take_next() -> bool {
     }
     if k == b'F' {
         return take_fetch();
+    }
+    if k == b'B' {
+        return take_batch();
     }
     false
 }

@@ -1,0 +1,3 @@
+-- The answers of a batch.
+pub mod Answer
+pub mod Room

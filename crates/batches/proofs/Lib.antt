@@ -1,0 +1,9 @@
+-- What is proved of batches.
+pub mod Standing
+pub mod Whole
+pub mod Joined
+pub mod Unique
+pub mod Passed
+pub mod Answering
+pub mod Edges
+pub mod Packing
