@@ -1,5 +1,6 @@
 //! Counting what questions and their answers reach, and naming what is missing.
 
+use crate::count_batches::{reached_by_question, required_of_questions};
 use crate::questions::Question;
 use std::collections::BTreeMap;
 
@@ -12,16 +13,25 @@ impl Counts {
     pub fn of(questions: &[Question], answers: &[Vec<String>]) -> Counts {
         let mut counts = Counts::default();
         for (question, answer) in questions.iter().zip(answers) {
-            counts.add(format!("{} questions", question.operation()));
-            for line in answer {
-                counts.count_line(question, line);
-            }
-            counts.count_findings(answer);
+            counts.count(question, answer);
         }
         counts
     }
 
-    fn add(&mut self, what: String) {
+    /// What one question and its answer reach.
+    pub fn count(&mut self, question: &Question, answer: &[String]) {
+        self.add(format!("{} questions", question.operation()));
+        for line in answer {
+            self.count_line(question, line);
+        }
+        self.count_findings(answer);
+        if let Question::Batch { output_size, batch } = question {
+            let reached = reached_by_question(batch, *output_size as usize, answer);
+            reached.into_iter().for_each(|what| self.add(what));
+        }
+    }
+
+    pub fn add(&mut self, what: String) {
         *self.0.entry(what).or_default() += 1;
     }
 
@@ -64,9 +74,25 @@ impl Counts {
         }
     }
 
-    /// What should have been reached and was not.
+    /// What questions should have reached and did not.
     pub fn missing(&self) -> Vec<String> {
-        required().into_iter().filter(|what| !self.0.contains_key(what)).collect()
+        self.missing_of(&required())
+    }
+
+    pub fn missing_of(&self, required: &[String]) -> Vec<String> {
+        required.iter().filter(|&what| !self.0.contains_key(what)).cloned().collect()
+    }
+
+    /// Prints what was reached and what is missing, and says how a program that counts should end.
+    pub fn tell(&self, required: &[String]) -> i32 {
+        for (what, count) in &self.0 {
+            println!("{what}: {count}");
+        }
+        let missing = self.missing_of(required);
+        for what in &missing {
+            println!("MISSING: {what}");
+        }
+        i32::from(!missing.is_empty())
     }
 }
 
@@ -87,7 +113,8 @@ fn class(question: &Question, place: usize) -> &'static str {
     }
 }
 
-fn required() -> Vec<String> {
+/// What the questions of a comparison should reach.
+pub fn required() -> Vec<String> {
     let mut list = required_refusals();
     list.extend(["cut", "append", "fetch"].map(|operation| format!("{operation} done")));
     for (index, first) in FINDINGS.iter().enumerate() {
@@ -100,6 +127,7 @@ fn required() -> Vec<String> {
     list.extend((2..=30).map(|length| format!("A1 length {length}")));
     list.extend((1..=30).map(|length| format!("A4 length {length}")));
     list.extend((1..=64).map(|size| format!("size {size}")));
+    list.extend(required_of_questions());
     list
 }
 

@@ -1,5 +1,6 @@
-//! The small structures E1 to E10 of document 01, as bytes.
+//! The small structures E1 to E10 of document 01, as bytes, and a batch of them.
 
+use crate::pack::pack;
 use crate::record::{init, load, load_u, store, Bytes};
 
 const NA: u8 = 0;
@@ -37,6 +38,24 @@ pub fn examples() -> Vec<Example> {
 pub fn example(name: &str) -> Vec<u8> {
     let found = examples().into_iter().find(|example| example.name == name);
     found.expect("an example of document 01").bytes
+}
+
+/// A night's run: E1 to E10, E2 with record 4 as its own parent, and a table without its header.
+pub struct Night {
+    pub bytes: Vec<u8>,
+    /// Where the header is missing.
+    pub ends_at: usize,
+}
+
+pub fn night() -> Night {
+    let mut tables: Vec<Vec<u8>> = examples().into_iter().map(|e| e.bytes).collect();
+    let mut own_parent = e2();
+    own_parent[4][5] = 4;
+    tables.push(own_parent.concat());
+    let mut bytes = pack(&tables);
+    let ends_at = bytes.len();
+    bytes.extend(example("E1"));
+    Night { bytes, ends_at }
 }
 
 fn e2() -> Vec<Bytes> {

@@ -1,5 +1,6 @@
 //! The generator: questions from a seed, E1 to E10 first.
 
+use crate::ask_batches::ask_batches;
 use crate::asking::{ask_append, ask_cut, ask_fetch, closed_selection, unsettle};
 use crate::builder::Builder;
 use crate::damage::{damage, damage_once, scatter};
@@ -13,7 +14,7 @@ use crate::random::Random;
 use crate::record::{init, store, Bytes};
 use crate::table::NONE;
 
-/// At least `count` tables to judge, and cuts, appends and fetches beside them.
+/// At least `count` tables to judge, and cuts, appends and fetches beside them; then batches.
 pub fn generate(seed: u64, count: usize) -> Vec<Question> {
     let mut random = Random::new(seed);
     let mut list: Vec<Question> = examples().into_iter().map(|e| judged(e.bytes)).collect();
@@ -33,6 +34,7 @@ pub fn generate(seed: u64, count: usize) -> Vec<Question> {
         list.push(judged(table.concat()));
         judges += 1;
     }
+    list.extend(ask_batches(seed));
     list
 }
 
@@ -178,14 +180,14 @@ fn grown_to(random: &mut Random, size: usize) -> Vec<Bytes> {
 }
 
 /// A grown table of so many records or more, small ones more often than large ones.
-fn grown(random: &mut Random, least: usize) -> Vec<Bytes> {
+pub fn grown(random: &mut Random, least: usize) -> Vec<Bytes> {
     let bound = random.pick(&[8, 16, 32, 64]);
     let size = least + random.below(bound - least + 1);
     grown_to(random, size)
 }
 
 /// A table of any shape, well-formed or damaged.
-fn any_table(random: &mut Random) -> Vec<Bytes> {
+pub fn any_table(random: &mut Random) -> Vec<Bytes> {
     let mut table = match random.below(10) {
         0 | 1 => grown_on_findings(random),
         2 => {

@@ -1,9 +1,13 @@
-//! The second opinion: a judge of tables written from document 01 alone, with what the comparison needs.
+//! The second opinion: a judge of tables and batches written from the documents alone, with what the comparison needs.
 
+pub mod ask_batches;
 pub mod asking;
+pub mod batch;
+pub mod batch_files;
 pub mod builder;
 pub mod compare;
 pub mod count;
+pub mod count_batches;
 pub mod damage;
 pub mod edit;
 pub mod examples;
@@ -12,6 +16,7 @@ pub mod findings;
 pub mod gadgets;
 pub mod generate;
 pub mod grow;
+pub mod pack;
 pub mod questions;
 pub mod random;
 pub mod record;

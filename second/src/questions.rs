@@ -1,9 +1,10 @@
 //! Many questions at once: their bytes, and the answer to each.
 
+use crate::batch::{answer_batch, Answered};
 use crate::edit::{append, cut, fetch, fetch_refusal};
 use crate::text::{hex, judge, refusal_line};
 
-/// What the output of a cut holds before it.
+/// What the output of a cut or a batch holds before it.
 pub const OUTPUT_FILL: u8 = 0xa5;
 
 #[derive(Clone, Debug, PartialEq, Eq)]
@@ -12,6 +13,7 @@ pub enum Question {
     Cut { selection: u64, output_size: u16, table: Vec<u8> },
     Append { in_use: u16, event: [u8; 16], buffer: Vec<u8> },
     Fetch { asked: u16, table: Vec<u8> },
+    Batch { output_size: u16, batch: Vec<u8> },
 }
 
 impl Question {
@@ -21,20 +23,22 @@ impl Question {
             Question::Cut { .. } => "cut",
             Question::Append { .. } => "append",
             Question::Fetch { .. } => "fetch",
+            Question::Batch { .. } => "batch",
         }
     }
 
-    /// The table or buffer of the question.
+    /// The table, buffer or batch of the question.
     pub fn table(&self) -> &[u8] {
         match self {
             Question::Judge { table }
             | Question::Cut { table, .. }
             | Question::Append { buffer: table, .. }
-            | Question::Fetch { table, .. } => table,
+            | Question::Fetch { table, .. }
+            | Question::Batch { batch: table, .. } => table,
         }
     }
 
-    /// The question for a reader: its operation, its fields, and its table in hex.
+    /// The question for a reader: its operation, its fields, and its table or batch in hex.
     pub fn describe(&self) -> String {
         let fields = match self {
             Question::Judge { .. } => String::new(),
@@ -43,8 +47,10 @@ impl Question {
             }
             Question::Append { in_use, event, .. } => format!(" in use {in_use} event {}", hex(event)),
             Question::Fetch { asked, .. } => format!(" record {asked}"),
+            Question::Batch { output_size, .. } => format!(" output {output_size} bytes"),
         };
-        format!("{}{} table {}", self.operation(), fields, hex(self.table()))
+        let held = if matches!(self, Question::Batch { .. }) { "batch" } else { "table" };
+        format!("{}{fields} {held} {}", self.operation(), hex(self.table()))
     }
 
     /// The question as bytes.
@@ -65,6 +71,10 @@ impl Question {
             Question::Fetch { asked, .. } => {
                 bytes.push(b'F');
                 bytes.extend(asked.to_le_bytes());
+            }
+            Question::Batch { output_size, .. } => {
+                bytes.push(b'B');
+                bytes.extend(output_size.to_le_bytes());
             }
         }
         bytes.extend((self.table().len() as u16).to_le_bytes());
@@ -97,9 +107,20 @@ impl Question {
                 let last = fetch_refusal(table, *asked as usize);
                 format!("{part}\n{}", last.map_or("given\n".to_string(), refusal_line))
             }
+            Question::Batch { output_size, batch } => {
+                let mut output = vec![OUTPUT_FILL; *output_size as usize];
+                let first = answer_batch(batch, &mut output, depth).map_or_else(refusal_line, answered_line);
+                format!("{first}{}\n", hex(&output))
+            }
         };
         lines + "\n"
     }
+}
+
+/// What the one call on a batch returns.
+fn answered_line(answered: Answered) -> String {
+    let end = answered.refusal.map_or("cleanly\n".to_string(), refusal_line);
+    format!("answered {} tables {} bytes, ended {end}", answered.tables, answered.bytes)
 }
 
 /// The bytes of questions, taken from the front.
@@ -143,6 +164,7 @@ pub fn all_questions(bytes: &[u8]) -> Result<Vec<Question>, String> {
                 buffer: rest.take_table()?,
             },
             b'F' => Question::Fetch { asked: rest.take_u16()?, table: rest.take_table()? },
+            b'B' => Question::Batch { output_size: rest.take_u16()?, batch: rest.take_table()? },
             other => return Err(format!("question {} has operation {other}", list.len())),
         });
     }

@@ -1,5 +1,5 @@
 //! The comparison finds a judge that is wrong on purpose, and the questions reach all that it should.
-#![cfg(not(feature = "wrong"))]
+#![cfg(not(any(feature = "wrong", feature = "wrong-batch")))]
 
 use second::compare::differences;
 use second::count::Counts;

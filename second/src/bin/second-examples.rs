@@ -1,12 +1,12 @@
-//! second-examples DIR: writes E1 to E10 as tables, and a README that says what each shows.
+//! second-examples DIR: writes E1 to E10 as tables, a batch of them, and a README that says what each shows.
 
-use second::examples::examples;
+use second::examples::{examples, night};
 use std::fs;
 use std::path::Path;
 use std::process::exit;
 
 const OPENING: &str = "# The small structures of document 01\n\n\
-Each file is a whole table, sixteen bytes a record. `second-examples DIR` (in `second/`) writes them again.\n\n";
+Each `.table` is a whole table, sixteen bytes a record; `night.batch` is a batch of tables. `second-examples DIR` (in `second/`) writes them again.\n\n";
 
 fn main() -> std::io::Result<()> {
     let words: Vec<String> = std::env::args().skip(1).collect();
@@ -21,5 +21,12 @@ fn main() -> std::io::Result<()> {
         fs::write(Path::new(folder).join(&file), &example.bytes)?;
         readme += &format!("- `{file}`: {}.\n", example.shows);
     }
+    let night = night();
+    fs::write(Path::new(folder).join("night.batch"), &night.bytes)?;
+    readme += &format!(
+        "- `night.batch`: E1 to E10, then E2 with record 4 as its own parent (`refused 6 at 4`), then a table \
+         without its header, which ends the batch with `refused 14 at {}`.\n",
+        night.ends_at
+    );
     fs::write(Path::new(folder).join("README.md"), readme)
 }
