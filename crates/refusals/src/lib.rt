@@ -13,7 +13,7 @@ pub enum Fault {
     Twin,
 }
 
-// Refusals 1 and 2 to 8, then 9 to 15; those with a place carry it.
+// Refusals 1 to 15; those with a place carry it.
 pub enum Refusal {
     Length,
     Record(Fault, usize),
