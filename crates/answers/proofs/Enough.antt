@@ -1,7 +1,7 @@
 -- How much room is always enough: six bytes for each byte of the batch.
-use mathlib.Core.Path.{_≡_, refl}
+use mathlib.Core.Path.{_≡_}
 use mathlib.Core.List.{List}
-use Prim.Native.Nat.{ℕ, _+_, _-_, _*_, _≤_}
+use Prim.Native.Nat.{ℕ, _-_, _*_, _≤_}
 use native.Mathlib.Omega.{arith}
 use lib.ListN.{length, drop, length-append, length-drop}
 use lib.Seq.{length-take-le}
@@ -11,9 +11,8 @@ use Rattle.batches.specs.Answers.{Each, none-left, and-then, AnswersOf}
 use Rattle.batches.proofs.Standing.{inside}
 use Rattle.lines.specs.Answer.{TextOf}
 use Rattle.lines.proofs.Answering.{text-within}
-use Rattle.answers.specs.declared.Run.{Run}
 use Rattle.answers.specs.declared.Run.the-variants as run
-use Rattle.answers.specs.Answer.{allTexts, RunAnswer, no-room, written}
+use Rattle.answers.specs.Answer.{allTexts, RunAnswer, no-room}
 
 -- the part that is a table is as long as it says
 pub part-long : (b : List ℕ) (place from to : ℕ) → standsAt b place ≡ table from to → length (part b from to) ≡ to - from

@@ -1,15 +1,14 @@
 -- The text of a table's answer, written into the part of a buffer from a place on.
-use mathlib.Core.Path.{_≡_, refl, sym, ap, ap₂, subst, _∙_}
+use mathlib.Core.Path.{_≡_, sym, ap, ap₂, subst, _∙_}
 use mathlib.Core.List.{List, [], _++_, append-nil}
-use Prim.Native.Nat.{ℕ, _+_, _-_, _*_, _<_, _≤_}
+use Prim.Native.Nat.{ℕ, _+_, _-_, _*_, _≤_}
 use native.Mathlib.Omega.{arith}
 use lib.ListN.{length, take, drop, length-drop, drop-of-length-le}
-use lib.Seq.{drop-drop, take-length, length-take-le}
+use lib.Seq.{drop-drop, take-length}
 use Rattle.refusals.specs.declared.Refusal.{Refusal}
-use Rattle.text.specs.Text.{Written}
 use Rattle.lines.specs.declared.Wrote.{Wrote}
 use Rattle.lines.specs.declared.Wrote.the-variants.{Refused, Length}
-use Rattle.lines.specs.Answer.{TextOf, WriteAnswer}
+use Rattle.lines.specs.Answer.{WriteAnswer}
 use Rattle.lines.proofs.Answering.{text-within}
 use Rattle.answers.specs.Room.{TextPut}
 

@@ -1,24 +1,21 @@
 -- A step has one result, and so has the run over a batch.
-use mathlib.Core.Path.{_≡_, refl, sym, ap, ap₂, subst, _∙_}
+use mathlib.Core.Path.{_≡_, sym, ap, ap₂, subst, _∙_}
 use mathlib.Core.List.{List, _++_}
 use Prim.Native.Nat.{ℕ}
 use native.Mathlib.Omega.{arith}
 use lib.ListN.{length, drop}
 use Rattle.refusals.proofs.Known.{same-refusal}
-use Rattle.batches.specs.declared.Ending.{Ending}
 use Rattle.batches.specs.Batch.{End, table, end, part, endOf}
 use Rattle.batches.specs.Answers.{AnswersOf}
 use Rattle.batches.proofs.Standing.{never-both}
 use Rattle.batches.proofs.Unique.{ending-one}
 use Rattle.batches.proofs.Answering.{SameAnswers, answers-one}
-use Rattle.judge.specs.declared.Judged.{Judged}
 use Rattle.judge.specs.Answer.{JudgeAnswer}
 use Rattle.judge.proofs.Unique.{judge-one}
 use Rattle.lines.specs.Answer.{TextOf}
 use Rattle.lines.proofs.Unique.{text-one}
 use Rattle.answers.specs.declared.Step.{Step}
 use Rattle.answers.specs.declared.Step.the-variants as step
-use Rattle.answers.specs.declared.Answers.{Answers}
 use Rattle.answers.specs.declared.Run.{Run}
 use Rattle.answers.specs.declared.Run.the-variants as run
 use Rattle.answers.specs.Answer.{allTexts, StepAnswer, answered, ended, RunAnswer, no-room, written}

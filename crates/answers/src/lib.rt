@@ -27,6 +27,7 @@ pub struct Answers {
     pub ending: Ending,
 }
 
+// What the run over a batch gives; only an output that is too short refuses it.
 pub enum Run {
     Refused(Refusal),
     Done(Answers),
@@ -42,7 +43,7 @@ pub fn judge_at(batch: &[u8], at: usize, first: &mut [u8], second: &mut [u8]) ->
     }
 }
 
-// The text of a table's answer from `at` on; returns the place after it.
+// The text of a table's answer from `at` on; returns the place after it. There is room, so that it is never refused.
 fn put_text(table: &[u8], out: &mut [u8], at: usize) -> usize
     requires { ⌜ at + (24 + 6 * length (now table)) ≤ length (now out) ⌝ }
     ensures { λ r. ⌜ TextPut (now (table .entry)) (now (out .entry)) at (now (out .exit)) r ⌝ }

@@ -4,7 +4,7 @@ use mathlib.Core.List.{List, []}
 use Prim.Native.Nat.{ℕ, _<_}
 use lib.ListN.{length}
 use Rattle.refusals.specs.Numbers.{at}
-use Rattle.batches.specs.Batch.{most, cleanly, refused, standsAt, no-more, Holds}
+use Rattle.batches.specs.Batch.{most, cleanly, refused, standsAt, no-more}
 use Rattle.batches.specs.Answers.{none-left, AnswersOf}
 use Rattle.batches.proofs.Standing.{too-long, stands-is}
 

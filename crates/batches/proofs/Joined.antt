@@ -1,14 +1,13 @@
 -- Two batches joined, the first ending cleanly: the tables of the first and then of the second, and the end of the second moved on.
-use mathlib.Core.Path.{_≡_, refl, sym, ap, ap₂, subst, _∙_}
-use mathlib.Core.Bool.{Bool}
-use mathlib.Core.List.{List, [], _∷_, _++_}
-use Prim.Native.Nat.{ℕ, _+_, _-_, _<_, _≤_}
+use mathlib.Core.Path.{_≡_, sym, ap, ap₂, subst, _∙_}
+use mathlib.Core.List.{List, _∷_, _++_}
+use Prim.Native.Nat.{ℕ, _+_, _-_, _≤_}
 use native.Mathlib.Nat.{add-zero}
 use native.Mathlib.Omega.{arith}
 use lib.ListN.{length, getD, take, drop, length-append, length-drop, List·getD-append}
 use lib.Seq.{take-append-le, drop-append-le, drop-append-add, getD-append-add}
 use Rattle.record.specs.Form.{word}
-use Rattle.batches.specs.Batch.{most, markIs, markAt, lengthAt, End, cleanly, refused, Standing, table, end, standsAt, part, HoldsFrom, no-more, one-more, Holds, movedOn}
+use Rattle.batches.specs.Batch.{most, markIs, markAt, lengthAt, End, cleanly, Standing, table, end, standsAt, part, HoldsFrom, no-more, one-more, Holds, movedOn}
 use Rattle.batches.proofs.Standing.{Stands, too-long, no-byte, short-header, wrong-mark, short-table, a-table, stands-is, stands-so, inside, clean-end}
 
 module _ (a b : List ℕ) (within : length (a ++ b) ≤ most) where

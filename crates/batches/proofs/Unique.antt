@@ -2,14 +2,13 @@
 use mathlib.Core.Path.{_≡_, refl, sym, ap, _∙_}
 use Prim.Native.Nat.{ℕ}
 use native.Mathlib.Omega.{arith}
-use Rattle.refusals.specs.declared.Refusal.{Refusal}
 use Rattle.refusals.specs.Numbers.{told}
 use Rattle.refusals.proofs.Known.{told-one}
 use Rattle.batches.specs.declared.Ending.{Ending}
 use Rattle.batches.specs.declared.Ending.the-variants.{Clean, Refused}
 use Rattle.batches.specs.declared.Item.{Item}
 use Rattle.batches.specs.declared.Item.the-variants.{Table, Ended}
-use Rattle.batches.specs.Batch.{End, cleanly, refused, Standing, table, end, endOf, standing}
+use Rattle.batches.specs.Batch.{Standing, table, end, endOf, standing}
 
 pub ending-one : (x y : Ending) → endOf x ≡ endOf y → x ≡ y
 ending-one Clean Clean e = refl

@@ -92,6 +92,7 @@ abbrev pub endOf : Ending → End
 endOf ending.Clean = cleanly
 endOf (ending.Refused r) = refused (told r)
 
+-- what stands there
 abbrev pub standing : Item → Standing
 standing (item.Table from to) = table from to
 standing (item.Ended e) = end (endOf e)

@@ -1,6 +1,6 @@
 // What a batch holds: at a place a table, or the batch's end.
 ghost use mathlib.Core.Path.{_≡_};
-ghost use Prim.Native.Nat.{_+_, _≤_, _<_};
+ghost use Prim.Native.Nat.{_+_, _≤_};
 ghost use lib.ListN.{length};
 ghost use Rattle.batches.specs.Batch.{most, markIs, headed, refused, end, standing, standsAt};
 ghost use Rattle.refusals.specs.Numbers.{told};

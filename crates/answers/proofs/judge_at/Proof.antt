@@ -4,7 +4,7 @@ use native.Mathlib.Omega.{arith}
 use borrow.Author.Needs.{needs}
 use Rattle.batches.proofs.Standing.{inside}
 use Rattle.batches.proofs.Unique.{table-stands, end-stands}
-use Rattle.answers.specs.Answer.{StepAnswer, answered, ended}
+use Rattle.answers.specs.Answer.{answered, ended}
 use Rattle.answers.proofs.judge_at.Statement.{statement}
 use Rattle.answers.proofs.judge_at.Tie as tie
 

@@ -1,5 +1,4 @@
 -- `item_at` meets its contract: the tests of the code are those of `standsAt`.
-use native.Mathlib.Omega.{arith}
 use borrow.Author.Tests.{le-leb, lt-leb, lt-ltb, le-ltb}
 use borrow.Author.Needs.{needs}
 use Rattle.batches.specs.Batch.{standsAt}
@@ -37,21 +36,6 @@ returns-4 c =
 pub item-at-spec : {M : Type 1} → statement M
 item-at-spec =
     tie.close
-    (tie.spec
-    (λ c κs. search needs)
-    returns
-    returns-2
-    (λ c. search needs)
-    (λ c κs. search needs)
-    returns-3
-    (λ c. search needs)
-    (λ c. search needs)
-    (λ c. search needs)
-    (λ c κs. search needs)
-    (λ c. search needs)
-    (λ c. search needs)
-    (λ c. search needs)
-    (λ c. search needs)
-    (λ c κs. search needs)
-    (λ c κs. search needs)
-    returns-4)
+    (tie.spec (λ c κs. search needs) returns returns-2 (λ c. search needs) (λ c κs. search needs) returns-3 (λ c. search needs) (λ c. search needs)
+    (λ c. search needs) (λ c κs. search needs) (λ c. search needs) (λ c. search needs) (λ c. search needs) (λ c. search needs) (λ c κs. search needs)
+    (λ c κs. search needs) returns-4)
