@@ -79,7 +79,9 @@ pub fn grow(random: &mut Random, profile: &Profile, mut table: Vec<Bytes>, size:
 
 /// A new record that may or may not fit the table.
 pub fn propose(random: &mut Random, profile: &Profile, table: &[Bytes]) -> Bytes {
-    let reads: Vec<Bytes> = table.iter().filter(|r| r[2] == 1 || r[2] == 3).copied().collect();
+    // A read of a damaged table may have a parent that isn't there.
+    let is_arm = |r: &&Bytes| (r[2] == 1 || r[2] == 3) && (r[5] as usize) < table.len();
+    let reads: Vec<Bytes> = table.iter().filter(is_arm).copied().collect();
     if random.percent(profile.new_thread) {
         let thread = random.below(profile.threads as usize) as u8;
         return init(thread, random.below(table.len()) as u8);
