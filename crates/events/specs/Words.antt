@@ -67,6 +67,13 @@ isWrite (Load o x v) = false
 isWrite (Store o x w) = true
 isWrite (Update o x v w) = true
 
+-- "kind: 0 Init, 1 load, 2 store, 3 update"
+abbrev pub isUpdate : Event → Bool
+isUpdate Init = false
+isUpdate (Load o x v) = false
+isUpdate (Store o x w) = false
+isUpdate (Update o x v w) = true
+
 -- an Init's order is NA
 abbrev pub orderOf : Event → Order
 orderOf Init = Na

@@ -13,7 +13,7 @@ use Rattle.events.specs.declared.Order.the-variants.{Na, Acq, Rel, Ar, Sc}
 use Rattle.events.specs.declared.Value.{Value}
 use Rattle.events.specs.declared.Event.{Event}
 use Rattle.events.specs.declared.Record.{Record}
-use Rattle.events.specs.Words.{isRead, isWrite, isNA, isSC, orderOf, locationOf, codeOf, sameLocation, oneLocation}
+use Rattle.events.specs.Words.{isRead, isWrite, isUpdate, isNA, isSC, orderOf, locationOf, codeOf, sameLocation, oneLocation}
 use Rattle.record.specs.declared.Decoded.{Decoded}
 use Rattle.record.specs.declared.Decoded.the-variants.{Good}
 use Rattle.record.specs.Form.{pick, byteAt, kindByte, orderByte, locationByte, readsKind, writesKind, orderFrom, eventFrom, readFrom, writtenFrom, recordFrom, part}
@@ -56,6 +56,10 @@ module _ (o : Order) (x : ℕ) (v w : Value) where
   writes-by : (k : ℕ) → k < 4 → (eqb k 2 || eqb k 3) ≡ isWrite (eventFrom k o x v w)
   unfolding eventFrom
   writes-by = four (λ (k : ℕ). (eqb k 2 || eqb k 3) ≡ isWrite (eventFrom k o x v w)) refl refl refl refl
+
+  updates-by : (k : ℕ) → k < 4 → eqb k 3 ≡ isUpdate (eventFrom k o x v w)
+  unfolding eventFrom
+  updates-by = four (λ (k : ℕ). eqb k 3 ≡ isUpdate (eventFrom k o x v w)) refl refl refl refl
 
   order-by : (k : ℕ) → k < 4 → pick (eqb k 0) Na o ≡ orderOf (eventFrom k o x v w)
   unfolding eventFrom
@@ -111,6 +115,10 @@ module _ {b : List ℕ} {n : ℕ} (one : One b n) where
 
   pub writes-told : {k : ℕ} → k ≡ kindByte bytes → writesKind k ≡ isWrite (eventsOf b .at n .event)
   writes-told = kind-told isWrite writesKind (writes-by (orderFrom (orderByte bytes)) (locationByte bytes) (readFrom bytes) (writtenFrom bytes))
+
+  pub updates-told : {k : ℕ} → k ≡ kindByte bytes → eqb k 3 ≡ isUpdate (eventsOf b .at n .event)
+  updates-told =
+      kind-told isUpdate (λ k. eqb k 3) (updates-by (orderFrom (orderByte bytes)) (locationByte bytes) (readFrom bytes) (writtenFrom bytes))
 
   location-told : pick (eqb (kindByte bytes) 0) none (some (locationByte bytes)) ≡ locationOf (eventsOf b .at n .event)
   location-told =

@@ -1,7 +1,7 @@
 // What the relations ask of one record of a sound table, read in place: no record is decoded again.
 ghost use mathlib.Core.Path.{_≡_};
 ghost use Prim.Native.Nat.{_<_};
-ghost use Rattle.events.specs.Words.{isRead, isWrite, isNA, isSC, orderOf, acquires, releases, oneLocation};
+ghost use Rattle.events.specs.Words.{isRead, isWrite, isUpdate, isNA, isSC, orderOf, acquires, releases, oneLocation};
 ghost use Rattle.record.specs.Form.{recordSize, byteAt, part};
 ghost use Rattle.table.specs.Events.{eventsOf};
 ghost use Rattle.facts.specs.Sound.{One, Two};
@@ -69,6 +69,14 @@ pub fn writes(table: &[u8], n: usize) -> bool
 {
     let kind = byte(table, n, KIND);
     (kind == STORE) | (kind == UPDATE)
+}
+
+// Whether record n is an update.
+pub fn updates(table: &[u8], n: usize) -> bool
+    requires { ⌜ One (now table) n ⌝ }
+    ensures { λ r. ⌜ r ≡ isUpdate (eventsOf (now (table .entry)) .at n .event) ⌝ }
+{
+    byte(table, n, KIND) == UPDATE
 }
 
 // The order of record n; an Init's is NA.

@@ -5,7 +5,7 @@ use Prim.Native.Nat.{_<_}
 use native.Mathlib.Omega.{arith}
 use lib.ListN.{length, getD}
 use Rattle.findings.specs.declared.Finding.{Finding}
-use Rattle.findings.specs.declared.Finding.the-variants.{R, A1, A2, A3, A4, W}
+use Rattle.findings.specs.declared.Finding.the-variants.{R, A1, A2, A3, A4, A5, W}
 use Rattle.findings.specs.declared.Findings.{Findings}
 use Rattle.findings.specs.Family.{inOrder, placeOf, findingAt, foundOf}
 
@@ -16,6 +16,7 @@ at-place g d A1 = refl
 at-place g d A2 = refl
 at-place g d A3 = refl
 at-place g d A4 = refl
+at-place g d A5 = refl
 at-place g d W = refl
 
 pub place-below : (f : Finding) → placeOf f < length inOrder
@@ -24,6 +25,7 @@ place-below A1 = omega arith
 place-below A2 = omega arith
 place-below A3 = omega arith
 place-below A4 = omega arith
+place-below A5 = omega arith
 place-below W = omega arith
 
 pub finding-at : (f : Finding) → findingAt (placeOf f) ≡ f
@@ -31,4 +33,4 @@ finding-at = at-place (λ (f : Finding). f) R
 
 -- what was found is known by what was found of each
 pub findings-one : {x y : Findings} → ((f : Finding) → foundOf x f ≡ foundOf y f) → x ≡ y
-findings-one same = λ i. record { r = same R i; «a1» = same A1 i; «a2» = same A2 i; «a3» = same A3 i; «a4» = same A4 i; w = same W i }
+findings-one same = λ i. record { r = same R i; «a1» = same A1 i; «a2» = same A2 i; «a3» = same A3 i; «a4» = same A4 i; «a5» = same A5 i; w = same W i }

@@ -1,17 +1,18 @@
-// The findings of document 01, what a search finds of one, and the verdict, as values.
+// The findings, what a search finds of one, and the verdict, as values.
 ghost use mathlib.Core.Path.{_≡_};
 ghost use Prim.Native.Nat.{_<_, _≤_};
 ghost use mathlib.Core.List.{[], _∷_};
 ghost use lib.ListN.{length, take, drop};
 ghost use Rattle.findings.specs.Family.{inOrder, findingAt, inSecond, nameOf, there, foundOf};
 
-// The six findings, in the order of the report.
+// The seven findings, in the order of the report.
 pub enum Finding {
     R,
     A1,
     A2,
     A3,
     A4,
+    A5,
     W,
 }
 
@@ -21,6 +22,7 @@ const IN_ORDER: [Finding; Finding::COUNT] = [
     Finding::A2,
     Finding::A3,
     Finding::A4,
+    Finding::A5,
     Finding::W,
 ];
 
@@ -39,6 +41,7 @@ pub struct Findings {
     pub a2: Found,
     pub a3: Found,
     pub a4: Found,
+    pub a5: Found,
     pub w: Found,
 }
 
@@ -56,7 +59,7 @@ pub struct Name {
 
 impl Finding {
     // How many there are.
-    pub const COUNT: usize = 6;
+    pub const COUNT: usize = 7;
 
     // The finding at a place of the report, from 0 on.
     pub fn at(place: usize) -> Finding
@@ -91,6 +94,10 @@ impl Finding {
                 bytes: [65, 52],
                 length: 2,
             },
+            Finding::A5 => Name {
+                bytes: [65, 53],
+                length: 2,
+            },
             Finding::W => Name {
                 bytes: [87, 0],
                 length: 1,
@@ -108,6 +115,7 @@ impl Finding {
             Finding::A2 => false,
             Finding::A3 => false,
             Finding::A4 => true,
+            Finding::A5 => false,
             Finding::W => false,
         }
     }
@@ -138,6 +146,7 @@ impl Findings {
             Finding::A2 => self.a2,
             Finding::A3 => self.a3,
             Finding::A4 => self.a4,
+            Finding::A5 => self.a5,
             Finding::W => self.w,
         }
     }

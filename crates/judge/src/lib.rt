@@ -1,4 +1,4 @@
-// The judge: a table's six findings, each with its least witness, and the verdict.
+// The judge: a table's seven findings, each with its least witness, and the verdict.
 mod searching;
 
 use crate::searching::find_all;

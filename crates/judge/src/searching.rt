@@ -68,6 +68,7 @@ fn find_in(
     let a2 = find_pair(Finding::A2, table, n, cf, hb, race);
     let a3 = find_pair(Finding::A3, table, n, cf, hb, race);
     let a4 = least_cycle(sc, n, second);
+    let a5 = find_pair(Finding::A5, table, n, cf, hb, race);
     let w = find_pair(Finding::W, table, n, cf, hb, race);
     Findings {
         r: r,
@@ -75,6 +76,7 @@ fn find_in(
         a2: a2,
         a3: a3,
         a4: a4,
+        a5: a5,
         w: w,
     }
 }

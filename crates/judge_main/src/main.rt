@@ -1,5 +1,5 @@
-// E1 to E10 of document 01, larger tables, and the refusals of a judging: what the judge says of each. The lines of `stdout` are worked
-// out by hand: document 01 has those of E1 to E10, and for each other table a comment says why.
+// E1 to E11 of documents 01 and 02, larger tables, and the refusals of a judging: what the judge says of each. The lines of `stdout` are
+// worked out by hand: the documents have those of E1 to E11, and for each other table a comment says why.
 mod judging;
 mod tables;
 
@@ -18,7 +18,7 @@ use record::places::PARENT;
 use record::places::READ;
 use record::places::THREAD;
 
-fn of_document() {
+fn of_documents() {
     judge_script(b"E1", &examples::E1);
     judge_script(b"E2", &examples::E2);
     judge_script(b"E3", &examples::E3);
@@ -29,6 +29,7 @@ fn of_document() {
     judge_script(b"E8", &examples::E8);
     judge_script(b"E9", &examples::E9);
     judge_script(b"E10", &examples::E10);
+    judge_script(b"E11", &examples::E11);
 }
 
 // Threads 2 and 3 are started on two arms, after reads 4 and 5 of one location with different values. The arms conflict, and so do their
@@ -43,6 +44,23 @@ fn arms() {
         b"arms joined",
         b"In0----- Sr00-0-0 In11---- Sr12-0-1 La01100- La01301- In24---- In35---- Sr26-1-1 La37811- ",
     );
+}
+
+// Updates 7 and 8 of write 1 stand on the two arms 5 and 6, in conflict, and 9 is a load of it; updates 10 and 12 have no source. So no
+// token is taken twice; nothing is NA, each source is before its readers, and no write of Z is before 10 or 12: consistent. With an
+// update of write 1 for the load 9, in another thread than the arms, 7 and 9 took one: the least pair, as 7 and 8 are in conflict.
+// An update below another of the same write took its token too: A5 at 2 3. Write 1 is hb before 2, and 2 before 3, a reader of write 1:
+// A1 with 1 2.
+fn tokens() {
+    judge_script(
+        b"tokens",
+        b"In0----- Sr00-0-0 Sr01-1-0 In12---- Sr13-1-1 La02210- La02411- Ub051001 Ub061001 La14100- Ub19-2u1 In22---- Ub2B-2u1 ",
+    );
+    judge_script(
+        b"three takers",
+        b"In0----- Sr00-0-0 Sr01-1-0 In12---- Sr13-1-1 La02210- La02411- Ub051001 Ub061001 Ub141001 ",
+    );
+    judge_script(b"taken again", b"In0----- Sr00-0-0 Ub011001 Ub021002 ");
 }
 
 // "Order of a judging: 1, 11, then records."
@@ -67,8 +85,9 @@ fn faults() {
 }
 
 fn main() {
-    of_document();
+    of_documents();
     arms();
+    tokens();
     judge_large(b"chain", Large::Chain, 64);
     judge_large(b"seven", Large::Seven, 36);
     judge_large(b"circle", Large::Circle, 49);

@@ -2,17 +2,18 @@
 use mathlib.Core.Path.{_≡_, refl, sym, subst}
 use mathlib.Core.List.{List, map}
 use Prim.Native.Nat.{ℕ, _<_}
+use native.Mathlib.Omega.{arith}
 use Rattle.findings.specs.declared.Finding.{Finding}
-use Rattle.findings.specs.declared.Finding.the-variants.{R, A1, A2, A3, A4, W}
+use Rattle.findings.specs.declared.Finding.the-variants.{R, A1, A2, A3, A4, A5, W}
 use Rattle.laws.specs.Witness.{Witness, a-record, a-pair, a-cycle, record-with, pair-with, cycle-with}
 use Rattle.laws.proofs.Steps.{plus-map}
 use Rattle.laws.proofs.Closure.{tri}
 use Rattle.model.specs.Table.{Table, Read}
-use Rattle.model.specs.Relations.{Hb, WriteOrReader, the-write, a-reader, Wb0, Wb, Fr, PoDiff, HbscBy, at-one-location, by-po≠, by-po≠-hb-po≠, Hbsc}
+use Rattle.model.specs.Relations.{Conflict, Hb, WriteOrReader, the-write, a-reader, Wb0, Wb, Fr, PoDiff, HbscBy, at-one-location, by-po≠, by-po≠-hb-po≠, Hbsc}
 use Rattle.model.specs.Relations.{ScStepBy, by-hbsc, by-wb, by-fr, ScStep, EarlierRace, SomeEarlierRace, WriteBefore, Justified, with-source, no-write-before, races-earlier, StandsOnRace}
-use Rattle.model.specs.Findings.{ShowsR, ShowsA1, ShowsA2, ShowsA3, ShowsA4, ShowsW, Shows, Holds}
+use Rattle.model.specs.Findings.{ShowsR, ShowsA1, ShowsA2, ShowsA3, ShowsA4, ShowsA5, ShowsW, Shows, Holds}
 use Rattle.laws.proofs.Renumbered.{cycle-map}
-use Rattle.model.proofs.Laws.{race-sym}
+use Rattle.model.proofs.Laws.{conflict-sym, race-sym}
 use Rattle.model.proofs.Renumber.{Renumbering, Along, Related, pulled, pulled-is, related-pulled}
 
 -- R is carried over if a racing write that stands before a read in t′ does so in t, and a read that stands on a race in t has a racing
@@ -149,20 +150,28 @@ module _ (t′ t : Table) (f : ℕ → ℕ) (N : Renumbering t′ t f) where
   abbrev pair : ℕ → ℕ → Witness
   pair a b = a-pair (record { first = f a; second = f b })
 
-  -- the two writes stand in t in the same order, or in the other
+  -- two records stand in t in the order that they have in p, or in the other
+  in-some-order : (x : Finding) (a b : ℕ) → a < b → (f a < f b → Shows t x (pair a b)) → (f b < f a → Shows t x (pair b a)) → Holds t x
+  in-some-order x a b l same other =
+      tri (f a) (f b) (λ k. record { witness = pair a b; shows = same k })
+      (λ e. let z = injective a b e in absurd (omega arith))
+      (λ k. record { witness = pair b a; shows = other k })
+
+  carries-A5 : (a b : ℕ) → ShowsA5 p a b → Holds t A5
+  carries-A5 a b h =
+      let source-a = source-along (h .s) a (h .source-p) in
+      let source-b = source-along (h .s) b (h .source-q) in
+      let apart : ¬ Conflict t (f a) (f b) = λ c. h .no-conflict (same-conflict a b .1 c) in
+      in-some-order A5 a b (h .in-order)
+      (λ l. pair-with (record { in-order = l; update-p = h .update-p; update-q = h .update-q; s = f (h .s); source-p = source-a; source-q = source-b; no-conflict = apart }))
+      (λ l. pair-with (record { in-order = l; update-p = h .update-q; update-q = h .update-p; s = f (h .s); source-p = source-b; source-q = source-a; no-conflict = λ c. apart (conflict-sym c) }))
+
   carries-W : (a b : ℕ) → ShowsW p a b → Holds t W
   carries-W a b h =
       let race = same-race a b .0 (h .race) in
-      tri (f a) (f b)
-      (λ l. record {
-        witness = pair a b;
-        shows = pair-with (record { in-order = l; write-p = h .write-p; write-q = h .write-q; race = race });
-      })
-      (λ e. absurd (race .differ e))
-      (λ g. record {
-        witness = pair b a;
-        shows = pair-with (record { in-order = g; write-p = h .write-q; write-q = h .write-p; race = race-sym race });
-      })
+      in-some-order W a b (h .in-order)
+      (λ l. pair-with (record { in-order = l; write-p = h .write-p; write-q = h .write-q; race = race }))
+      (λ l. pair-with (record { in-order = l; write-p = h .write-q; write-q = h .write-p; race = race-sym race }))
 
   carries : (x : Finding) → (x ≡ R → RacesStay p t f) → (w : Witness) → Shows p x w → Holds t x
   carries R S w (record-with {n = r} h) = record { witness = a-record (f r); shows = record-with (carries-R (S refl) r h) }
@@ -176,6 +185,7 @@ module _ (t′ t : Table) (f : ℕ → ℕ) (N : Renumbering t′ t f) where
       let b = q .second in
       record { witness = pair a b; shows = pair-with (carries-A3 a b h) }
   carries A4 S w (cycle-with {c = c} h) = record { witness = a-cycle (map f c); shows = cycle-with (carries-A4 c h) }
+  carries A5 S w (pair-with {p = q} h) = carries-A5 (q .first) (q .second) h
   carries W S w (pair-with {p = q} h) = carries-W (q .first) (q .second) h
 
   keeps-pulled : Keeps p t f

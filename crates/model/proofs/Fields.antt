@@ -8,7 +8,7 @@ use Rattle.events.specs.declared.Value.{Value}
 use Rattle.events.specs.declared.Value.the-variants.{U, Known}
 use Rattle.events.specs.declared.Link.{Link}
 use Rattle.events.specs.declared.Link.the-variants.{Absent, To}
-use Rattle.events.specs.Words.{isInit, isRead, isWrite, isNA, isSC, orderOf, acquires, releases, oneLocation}
+use Rattle.events.specs.Words.{isInit, isRead, isWrite, isUpdate, isNA, isSC, orderOf, acquires, releases, oneLocation}
 use Rattle.laws.specs.Says.{Says}
 use Rattle.laws.proofs.Says.{says-no, says-T, says-eq, says-iff, says-and-then}
 use Rattle.model.specs.Table.{Table, Source}
@@ -111,6 +111,9 @@ module _ (t : Table) where
 
   abbrev pub write? : ℕ → Bool
   write? n = isWrite (t .at n .event)
+
+  abbrev pub update? : ℕ → Bool
+  update? n = isUpdate (t .at n .event)
 
   abbrev pub na? : ℕ → Bool
   na? n = isNA (orderOf (t .at n .event))

@@ -15,6 +15,7 @@ pub mod MirrorTells
 pub mod MirrorReport
 pub mod Worked
 pub mod WrongJudges
+pub mod WrongTokens
 pub mod Links
 pub mod Renumber
 pub mod Carried

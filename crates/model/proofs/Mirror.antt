@@ -6,7 +6,7 @@ use lib.Dec.{eqb, ltb}
 use Rattle.events.specs.declared.Link.the-variants.{Absent, To}
 use Rattle.laws.specs.Says.{anyBelow}
 use Rattle.model.specs.Table.{Table, thread}
-use Rattle.model.proofs.Fields.{sameLink, read?, write?, na?, sc?, acquiring?, releasing?, oneLocation?, sourceThat}
+use Rattle.model.proofs.Fields.{sameLink, read?, write?, update?, na?, sc?, acquiring?, releasing?, oneLocation?, sourceThat}
 use Rattle.model.proofs.MirrorRows.{Rows, rows, look, plus}
 
 module _ (t : Table) where
@@ -100,6 +100,10 @@ module _ (t : Table) where
 
   abbrev pub showsA3? : Rows → Rows → ℕ → ℕ → Bool
   showsA3? cf hb r′ r = look hb r′ r && sourceThat t r′ (λ s′. sourceThat t r (λ s. look cf s′ s))
+
+  abbrev pub showsA5? : Rows → ℕ → ℕ → Bool
+  showsA5? cf p q =
+      ltb p q && (update? t p && (update? t q && (sourceThat t p (λ s. source? s q) && not (look cf p q))))
 
   abbrev pub showsW? : Rows → ℕ → ℕ → Bool
   showsW? race p q = ltb p q && (write? t p && (write? t q && look race p q))

@@ -9,11 +9,11 @@ use Rattle.laws.proofs.Says.{says-T, says-eq, says-lt, says-not, says-and, says
 use Rattle.model.specs.Table.{Table, Inside, thread, Source, NoSource}
 use Rattle.model.specs.Relations.{Po, AtOrAbove, equal, above, Apart, Conflict, Sw, by-po, by-sw, Hb, Race, WriteOrReader, the-write, a-reader, Wb0, Wb, Fr, PoDiff, PoHbPo, HbscBy, at-one-location, by-po≠, by-po≠-hb-po≠, by-hbsc, by-wb, by-fr, ScStep, SomeEarlierRace, SomeWriteBefore, Justified, with-source, no-write-before, races-earlier}
 use Rattle.model.specs.WellFormed.{WellFormed}
-use Rattle.model.specs.Findings.{ShowsR, ShowsA2, ShowsA3, ShowsW}
-use Rattle.model.proofs.Fields.{says-link, read?, write?, na?, sc?, acquiring?, releasing?, oneLocation?, says-source-that}
+use Rattle.model.specs.Findings.{ShowsR, ShowsA2, ShowsA3, ShowsA5, ShowsW}
+use Rattle.model.proofs.Fields.{says-link, read?, write?, update?, na?, sc?, acquiring?, releasing?, oneLocation?, says-source-that}
 use Rattle.model.proofs.Within.{parent-within, po-within, source-within, po-or-sw-within, hb-within, above-within}
 use Rattle.model.proofs.MirrorRows.{Tells, Rows, rows, look, plus, rows-tell, plus-tells}
-use Rattle.model.proofs.Mirror.{source?, noSource?, po-rows, atOrAbove?, apart?, conflict?, conflict-rows, sw?, poOrSw?, hb-rows, race?, race-rows, writeOrReader?, wb0?, fr?, poDiff?, poHbPo?, hbsc?, scStep?, earlierRace?, writeBefore?, justified?, showsR?, showsA2?, showsA3?, showsW?}
+use Rattle.model.proofs.Mirror.{source?, noSource?, po-rows, atOrAbove?, apart?, conflict?, conflict-rows, sw?, poOrSw?, hb-rows, race?, race-rows, writeOrReader?, wb0?, fr?, poDiff?, poHbPo?, hbsc?, scStep?, earlierRace?, writeBefore?, justified?, showsR?, showsA2?, showsA3?, showsA5?, showsW?}
 
 says-source : (t : Table) (s r : ℕ) → Says (source? t s r) (Source t s r)
 says-source t s r =
@@ -102,6 +102,17 @@ module _ {t : Table} (ok : WellFormed t) where
           (says-source-that t r′ λ s′ c′.
           says-source-that t r λ s c.
           cf-ok .each s′ s (source-within ok .left c′) (source-within ok .left c)));
+    }
+
+    pub A5-tells : Tells (t .count) (showsA5? t cf) (ShowsA5 t)
+    A5-tells = record {
+      each = λ p q x y.
+          says-iff (λ (o, (u, (v, ((s, (c, d)), n)))). record { in-order = o; update-p = u; update-q = v; s = s; source-p = c; source-q = d; no-conflict = n })
+          (λ f. (f .in-order, (f .update-p, (f .update-q, ((f .s, (f .source-p, f .source-q)), f .no-conflict)))))
+          (says-and (says-lt p q)
+          (says-and (says-T (update? t p))
+          (says-and (says-T (update? t q))
+          (says-and (says-source-that t p (λ s c. says-source t s q)) (says-not (cf-ok .each p q x y))))));
     }
 
   module _ (hb : Rows) (hb-ok : Tells (t .count) (look hb) (Hb t)) where

@@ -8,13 +8,13 @@ use Rattle.laws.specs.Witness.{Witness, a-record, a-pair, a-cycle, record-with,
 use Rattle.laws.proofs.Steps.{Within}
 use Rattle.laws.proofs.Fits.{Fits, one-inside, two-inside, cycle-inside, first-inside, second-inside}
 use Rattle.findings.specs.declared.Finding.{Finding}
-use Rattle.findings.specs.declared.Finding.the-variants.{R, A1, A2, A3, A4, W}
+use Rattle.findings.specs.declared.Finding.the-variants.{R, A1, A2, A3, A4, A5, W}
 use Rattle.findings.specs.Family.{inSecond}
 use Rattle.model.specs.Table.{Table}
 use Rattle.model.specs.WellFormed.{WellFormed}
 use Rattle.model.specs.Findings.{Shows}
 use Rattle.model.proofs.Facts.{read-inside}
-use Rattle.model.proofs.Within.{hb-within, race-within, wb0-within, sc-step-within}
+use Rattle.model.proofs.Within.{hb-within, race-within, wb0-within, sc-step-within, one-source-within}
 
 module _ {t : Table} (ok : WellFormed t) where
   -- what shows a finding is made of records of the table
@@ -24,6 +24,7 @@ module _ {t : Table} (ok : WellFormed t) where
   witness-fits A2 (pair-with s) = two-inside (hb-within ok .left (s .before)) (hb-within ok .right (s .before))
   witness-fits A3 (pair-with s) = two-inside (hb-within ok .left (s .before)) (hb-within ok .right (s .before))
   witness-fits A4 (cycle-with {c = c} s) = cycle-inside (sc-step-within ok) c s
+  witness-fits A5 (pair-with s) = two-inside (one-source-within ok .left s) (one-source-within ok .right s)
   witness-fits W (pair-with s) = two-inside (race-within ok .left (s .race)) (race-within ok .right (s .race))
 
   pub pair-within : (f : Finding) → Within (t .count) (λ p q. Shows t f (a-pair (record { first = p; second = q })))
@@ -41,4 +42,5 @@ stands t A1 (cycle-with s) = in-its-buffer refl
 stands t A2 (pair-with s) = no-buffer-for-two
 stands t A3 (pair-with s) = no-buffer-for-two
 stands t A4 (cycle-with s) = in-its-buffer refl
+stands t A5 (pair-with s) = no-buffer-for-two
 stands t W (pair-with s) = no-buffer-for-two

@@ -6,6 +6,7 @@ use Rattle.findings.specs.declared.Finding.the-variants.{R}
 use Rattle.model.specs.Table.{Table, Inside, Parent, Source}
 use Rattle.model.specs.Relations.{Po, AtOrAbove, equal, above, Sw, PoOrSw, by-po, by-sw, Hb, Race, Wb0, ScStep}
 use Rattle.model.specs.WellFormed.{WellFormed}
+use Rattle.model.specs.Findings.{ShowsA5}
 use Rattle.model.proofs.Facts.{location-left, location-right, write-inside, sc-inside, parent-inside, parent-earlier, source-inside, source-is-earlier-write}
 
 -- what comes with a relation that stays inside stays inside
@@ -61,6 +62,10 @@ module _ {t : Table} (ok : WellFormed t) where
 
   pub sc-step-within : Within (t .count) (ScStep t)
   sc-step-within = record { left = λ {a} s. sc-inside ok a (s .sc-a); right = λ {a} {b} s. sc-inside ok b (s .sc-b) }
+
+  pub one-source-within : Within (t .count) (ShowsA5 t)
+  one-source-within =
+      record { left = λ s. source-within .right (s .source-p); right = λ s. source-within .right (s .source-q) }
 
   -- ---- po and hb lead to larger numbers
 

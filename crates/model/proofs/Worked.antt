@@ -1,4 +1,4 @@
--- E1 to E10 are true of the definitions: one statement over the list of them, by the computed mirror.
+-- E1 to E11 are true of the definitions: one statement over the list of them, by the computed mirror.
 use mathlib.Core.Path.{_≡_, refl, ap, subst, _∙_}
 use mathlib.Core.List.{List, [], _∷_, map}
 use mathlib.Core.Option.{Option, none, some}
@@ -12,7 +12,7 @@ use Rattle.laws.specs.Witness.{Witness, LeastWitness}
 use Rattle.model.specs.Table.{listed}
 use Rattle.model.specs.WellFormed.{WellFormed}
 use Rattle.model.specs.Findings.{Shows, VerdictIs}
-use Rattle.model.specs.Examples.{Example, Right, Each, examples, E1, E2, E3, E4, E5, E6, E7, E8, E9, E10}
+use Rattle.model.specs.Examples.{Example, Right, Each, examples, E1, E2, E3, E4, E5, E6, E7, E8, E9, E10, E11}
 use Rattle.model.proofs.Verdicts.{verdictBy, verdict-is}
 use Rattle.model.proofs.Refusals.{wellFormed?, well-formed-says}
 use Rattle.model.proofs.MirrorReport.{mirrored, mirrored-least}
@@ -58,5 +58,5 @@ pub examples-right : Each Right examples
 unfolding wellFormed? mirrored anyBelow
 examples-right = (
   right E1 tt refl refl,
-  (right E2 tt refl refl, (right E3 tt refl refl, (right E4 tt refl refl, (right E5 tt refl refl, (right E6 tt refl refl, (right E7 tt refl refl, (right E8 tt refl refl, (right E9 tt refl refl, (right E10 tt refl refl, tt))))))))),
+  (right E2 tt refl refl, (right E3 tt refl refl, (right E4 tt refl refl, (right E5 tt refl refl, (right E6 tt refl refl, (right E7 tt refl refl, (right E8 tt refl refl, (right E9 tt refl refl, (right E10 tt refl refl, (right E11 tt refl refl, tt)))))))))),
 )

@@ -197,7 +197,7 @@ module _ {t : Table} (ok : WellFormed t) where
 
 -- 0 Init; 1 store REL X=0 p0; 2 Init thread 1 p1; 3 store REL X=1 p2; then two arms: 4 load ACQ X 0 p1 s1; 5 load ACQ X 1 p1 s3;
 -- a thread started on each: 6 Init thread 2 p4; 7 Init thread 3 p5; 8 store NA Y=1 p6; 9 store NA Y=2 p7: consistent.
-abbrev line : ℕ → Link → Link → Event → Record
+abbrev pub line : ℕ → Link → Link → Event → Record
 line thread parent source event = record { thread = thread; parent = parent; source = source; event = event }
 
 abbrev pub arms : Example

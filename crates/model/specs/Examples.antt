@@ -1,18 +1,18 @@
--- The small structures E1 to E10 of document 01, and the report of each.
+-- The small structures E1 to E10 of document 01 and the table of document 02's W2, and the report of each.
 use mathlib.Core.Bool.{Bool, true, false}
 use mathlib.Core.Option.{Option, none, some}
 use mathlib.Core.List.{List, [], _∷_}
 use Prim.Native.Nat.{ℕ}
 use lib.Dec.{eqb}
-use Rattle.events.specs.declared.Order.the-variants.{Na, Acq, Rel, Sc}
+use Rattle.events.specs.declared.Order.the-variants.{Na, Acq, Rel, Ar, Sc}
 use Rattle.events.specs.declared.Value.the-variants.{U, Known}
 use Rattle.events.specs.declared.Link.the-variants.{Absent, To}
 use Rattle.events.specs.declared.Event.{Event}
-use Rattle.events.specs.declared.Event.the-variants.{Init, Load, Store}
+use Rattle.events.specs.declared.Event.the-variants.{Init, Load, Store, Update}
 use Rattle.events.specs.declared.Record.{Record}
 use Rattle.laws.specs.Witness.{Witness, a-record, a-pair, a-cycle}
 use Rattle.findings.specs.declared.Finding.{Finding}
-use Rattle.findings.specs.declared.Finding.the-variants.{R, A1, A2, A3, A4, W}
+use Rattle.findings.specs.declared.Finding.the-variants.{R, A1, A2, A3, A4, A5, W}
 use Rattle.findings.specs.declared.Verdict.{Verdict}
 use Rattle.findings.specs.declared.Verdict.the-variants.{Undefined, Inconsistent, Consistent}
 use Rattle.findings.specs.Family.{placeOf}
@@ -202,5 +202,20 @@ E10 = record {
   report = only A3 (pair 10 11) Inconsistent;
 }
 
+-- W2 of document 02: "0 Init; 1 store REL X=0 p0; 2 and 3 Init of threads 1 and 2 p1; 4 and 5 updates AR of X from 0 to 1, p2 and p3,
+-- both s1": A5 at 4 5 only.
+abbrev pub E11 : Example
+E11 = record {
+  table =
+      root
+      ∷ p 0 0 (Store Rel X (Known 0))
+      ∷ p 1 1 Init
+      ∷ p 1 2 Init
+      ∷ ps 2 1 1 (Update Ar X (Known 0) (Known 1))
+      ∷ ps 3 1 2 (Update Ar X (Known 0) (Known 1))
+      ∷ [];
+  report = only A5 (pair 4 5) Inconsistent;
+}
+
 abbrev pub examples : List Example
-examples = E1 ∷ E2 ∷ E3 ∷ E4 ∷ E5 ∷ E6 ∷ E7 ∷ E8 ∷ E9 ∷ E10 ∷ []
+examples = E1 ∷ E2 ∷ E3 ∷ E4 ∷ E5 ∷ E6 ∷ E7 ∷ E8 ∷ E9 ∷ E10 ∷ E11 ∷ []

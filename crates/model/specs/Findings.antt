@@ -1,14 +1,14 @@
--- The six findings of document 01, their witnesses, and the verdict.
+-- The seven findings (six of document 01, and A5 of document 02), their witnesses, and the verdict.
 use mathlib.Core.Option.{Option}
 use mathlib.Core.List.{List}
 use Prim.Native.Nat.{ℕ, _<_}
 use Rattle.laws.specs.Steps.{IsCycle}
 use Rattle.laws.specs.Witness.{Witness, LeastWitness, RecordWith, PairWith, CycleWith}
 use Rattle.findings.specs.declared.Finding.{Finding}
-use Rattle.findings.specs.declared.Finding.the-variants.{R, A1, A2, A3, A4, W}
+use Rattle.findings.specs.declared.Finding.the-variants.{R, A1, A2, A3, A4, A5, W}
 use Rattle.findings.specs.declared.Verdict.{Verdict}
 use Rattle.findings.specs.declared.Verdict.the-variants.{Undefined, Inconsistent, Consistent}
-use Rattle.model.specs.Table.{Table, Source, Read, Write}
+use Rattle.model.specs.Table.{Table, Source, IsUpdate, Read, Write}
 use Rattle.model.specs.Relations.{Conflict, Hb, Race, Wb0, ScStep, Justified}
 
 module _ (t : Table) where
@@ -39,6 +39,16 @@ module _ (t : Table) where
   abbrev pub ShowsA4 : List ℕ → Type 0
   ShowsA4 = IsCycle (ScStep t)
 
+  -- A5 (document 02): "two different updates, not in conflict, have the same source"; p is the one earlier in the table
+  pub record ShowsA5 (p q : ℕ) : Type 0 where
+    pub in-order : p < q
+    pub update-p : IsUpdate t p
+    pub update-q : IsUpdate t q
+    pub s : ℕ
+    pub source-p : Source t s p
+    pub source-q : Source t s q
+    pub no-conflict : ¬ Conflict t p q
+
   -- W: "two writes race", "p before q in the table"
   pub record ShowsW (p q : ℕ) : Type 0 where
     pub in-order : p < q
@@ -53,6 +63,7 @@ module _ (t : Table) where
   Shows A2 = PairWith ShowsA2
   Shows A3 = PairWith ShowsA3
   Shows A4 = CycleWith ShowsA4
+  Shows A5 = PairWith ShowsA5
   Shows W = PairWith ShowsW
 
   -- a finding holds when some witness shows it
@@ -71,7 +82,7 @@ pub record Report : Type 0 where
   pub witness : Finding → Option Witness
   pub verdict : Verdict
 
--- x is the report of t: "All six are judged always", each with its least witness
+-- x is the report of t: "All six are judged always", seven with A5, each with its least witness
 pub record Reports (t : Table) (x : Report) : Type 0 where
   pub least : (f : Finding) → LeastWitness (Shows t f) (x .witness f)
   pub verdict : VerdictIs t (x .verdict)

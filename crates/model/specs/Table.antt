@@ -7,7 +7,7 @@ use lib.ListN.{length, getD}
 use Rattle.events.specs.declared.Link.the-variants.{Absent, To}
 use Rattle.events.specs.declared.Event.the-variants.{Init}
 use Rattle.events.specs.declared.Record.{Record}
-use Rattle.events.specs.Words.{isInit, isRead, isWrite, isNA, isSC, orderOf, acquires, releases, oneLocation}
+use Rattle.events.specs.Words.{isInit, isRead, isWrite, isUpdate, isNA, isSC, orderOf, acquires, releases, oneLocation}
 
 -- "in the order in which the events were added": how many records there are, and the record of each number
 pub record Table : Type 0 where
@@ -36,6 +36,9 @@ module _ (t : Table) where
 
   abbrev pub IsInit : ℕ → Type 0
   IsInit n = T (isInit (t .at n .event))
+
+  abbrev pub IsUpdate : ℕ → Type 0
+  IsUpdate n = T (isUpdate (t .at n .event))
 
   abbrev pub Read : ℕ → Type 0
   Read n = T (isRead (t .at n .event))

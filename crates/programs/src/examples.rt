@@ -1,4 +1,4 @@
-// Document 01's examples as scripts, and E2 as bytes.
+// The examples of documents 01 and 02 as scripts, and E2 as bytes.
 ghost use Prim.Native.Nat.{_<_};
 ghost use Rattle.record.specs.Form.{recordSize};
 use crate::script;
@@ -29,6 +29,9 @@ pub const E9: [u8; 11 * WIDTH] =
 
 pub const E10: [u8; 12 * WIDTH] =
     *b"In0----- Sn00-2-0 In11---- In21---- In31---- Sr12-2-1 La23120- La23521- Sr26-0-1 Sr27-1-1 La34801- La3A911- ";
+
+// Document 02's table of two updates that took one token.
+pub const E11: [u8; 6 * WIDTH] = *b"In0----- Sr00-0-0 In11---- In21---- Ub121001 Ub231001 ";
 
 // E2 as bytes.
 pub fn e2() -> [u8; 5 * SIZE] {

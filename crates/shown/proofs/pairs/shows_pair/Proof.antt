@@ -18,6 +18,11 @@ sources-conflict-requires c κs =
     let (placed, by) = entry (c .before .before) .pre in
     (placed, (by .by-cf, by .by-hb))
 
+one-token-requires : tie.Need-one-token-requires
+one-token-requires c κs =
+    let (placed, by) = entry (c .before .before) .pre in
+    (placed, by .by-cf)
+
 writes-race-requires : tie.Need-writes-race-requires
 writes-race-requires c κs =
     let (placed, by) = entry (c .before .before) .pre in
@@ -27,7 +32,9 @@ pub shows-pair-spec : {M : Type 1} → statement M
 shows-pair-spec =
     tie.close
     (tie.spec (λ c. search needs) (λ c. search needs) (λ c. search needs) conflict-before-requires (λ c. search needs) sources-conflict-requires
-    (λ c. search needs) (λ c. search needs) writes-race-requires (λ c. rw (c .enum-told .given .1) (says-no no-record))
-    (λ c. rw (c .enum-told2 .given .1) (says-no no-cycle)) (λ c. rw (c .before .enum-told3 .given .1) (says-pair (c .conflict-before .ensures)))
+    (λ c. search needs) (λ c. search needs) one-token-requires (λ c. search needs) writes-race-requires
+    (λ c. rw (c .enum-told .given .1) (says-no no-record)) (λ c. rw (c .enum-told2 .given .1) (says-no no-cycle))
+    (λ c. rw (c .before .enum-told3 .given .1) (says-pair (c .conflict-before .ensures)))
     (λ c. rw (c .before .enum-told4 .given .1) (says-pair (c .sources-conflict .ensures))) (λ c. rw (c .enum-told5 .given .1) (says-no no-cycle))
-    (λ c. rw (c .before .enum-told6 .given .1) (says-pair (c .writes-race .ensures))))
+    (λ c. rw (c .before .enum-told6 .given .1) (says-pair (c .one-token .ensures)))
+    (λ c. rw (c .before .enum-told7 .given .1) (says-pair (c .writes-race .ensures))))
