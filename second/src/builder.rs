@@ -1,9 +1,7 @@
 //! A table under construction.
 
-use crate::record::{init, load, load_u, store, update, Bytes};
+use crate::record::{init, load, load_u, store, update, update_u, Bytes};
 use crate::table::NONE;
-
-const SC: u8 = 4;
 
 /// A table under construction, with threads and locations that are still free.
 pub struct Builder {
@@ -55,10 +53,15 @@ impl Builder {
         self.push(load_u(order, self.thread_of(parent), parent, NONE, location))
     }
 
-    /// An SC update of what the source wrote.
-    pub fn update(&mut self, parent: u8, source: u8, value: u16) -> u8 {
+    /// An update of what the source wrote.
+    pub fn update(&mut self, order: u8, parent: u8, source: u8, value: u16) -> u8 {
         let written = self.table[source as usize];
         let read = u16::from_le_bytes([written[12], written[13]]);
-        self.push(update(SC, self.thread_of(parent), parent, source, written[7], read, value))
+        self.push(update(order, self.thread_of(parent), parent, source, written[7], read, value))
+    }
+
+    /// An update that reads u without a source.
+    pub fn update_u(&mut self, order: u8, parent: u8, location: u8, value: u16) -> u8 {
+        self.push(update_u(order, self.thread_of(parent), parent, NONE, location, value))
     }
 }

@@ -1,10 +1,10 @@
 //! Counting what questions and their answers reach, and naming what is missing.
 
 use crate::count_batches::{reached_by_question, required_of_questions};
+use crate::count_updates::{reached_by_updates, required_of_updates};
+use crate::findings::FINDINGS;
 use crate::questions::Question;
 use std::collections::BTreeMap;
-
-pub const FINDINGS: [&str; 6] = ["R", "A1", "A2", "A3", "A4", "W"];
 
 #[derive(Default)]
 pub struct Counts(pub BTreeMap<String, usize>);
@@ -25,10 +25,14 @@ impl Counts {
             self.count_line(question, line);
         }
         self.count_findings(answer);
-        if let Question::Batch { output_size, batch } = question {
-            let reached = reached_by_question(batch, *output_size as usize, answer);
-            reached.into_iter().for_each(|what| self.add(what));
-        }
+        let reached = match question {
+            Question::Judge { table } => reached_by_updates(table, answer),
+            Question::Batch { output_size, batch } => {
+                reached_by_question(batch, *output_size as usize, answer)
+            }
+            _ => Vec::new(),
+        };
+        reached.into_iter().for_each(|what| self.add(what));
     }
 
     pub fn add(&mut self, what: String) {
@@ -127,6 +131,7 @@ pub fn required() -> Vec<String> {
     list.extend((2..=30).map(|length| format!("A1 length {length}")));
     list.extend((1..=30).map(|length| format!("A4 length {length}")));
     list.extend((1..=64).map(|size| format!("size {size}")));
+    list.extend(required_of_updates());
     list.extend(required_of_questions());
     list
 }

@@ -1,7 +1,8 @@
 //! Counting what batches reach: in the questions about them, and in whole files.
 
 use crate::batch::{read_batch, HEADER_BYTES, MARK};
-use crate::count::{Counts, FINDINGS};
+use crate::count::Counts;
+use crate::findings::FINDINGS;
 use crate::questions::Question;
 use crate::relations::DEPTH;
 use crate::table::Refusal;

@@ -1,11 +1,12 @@
-//! The small structures E1 to E10 of document 01, as bytes, and a batch of them.
+//! The small structures E1 to E10 of document 01 and E11 of document 02, as bytes, and a batch of them.
 
 use crate::pack::pack;
-use crate::record::{init, load, load_u, store, Bytes};
+use crate::record::{init, load, load_u, store, update, Bytes};
 
 const NA: u8 = 0;
 const ACQ: u8 = 1;
 const REL: u8 = 2;
+const AR: u8 = 3;
 const SC: u8 = 4;
 const X: u8 = 0;
 const Y: u8 = 1;
@@ -19,7 +20,7 @@ pub struct Example {
 }
 
 pub fn examples() -> Vec<Example> {
-    let list: [(&'static str, &'static str, Vec<Bytes>); 10] = [
+    let list: [(&'static str, &'static str, Vec<Bytes>); 11] = [
         ("E1", "Init alone: consistent", vec![init(0, 255)]),
         ("E2", "a read on one arm of a branch happens before the other arm: A2 at 2 4 only", e2()),
         ("E3", "two SC stores, each other's location read old: A4 with 4 5 7 8 only", e3()),
@@ -30,6 +31,7 @@ pub fn examples() -> Vec<Example> {
         ("E8", "reads that stand on a race, judged by earlier writes only: consistent", e8()),
         ("E9", "two readers see two stores in two orders: A1 with 5 6 only", e9()),
         ("E10", "two reads in a row whose sources conflict: A3 at 10 11 only", e10()),
+        ("E11", "two updates take one token: A5 at 4 5 only", e11()),
     ];
     list.into_iter().map(|(name, shows, records)| Example { name, shows, bytes: records.concat() }).collect()
 }
@@ -37,10 +39,10 @@ pub fn examples() -> Vec<Example> {
 /// The bytes of one example by its name.
 pub fn example(name: &str) -> Vec<u8> {
     let found = examples().into_iter().find(|example| example.name == name);
-    found.expect("an example of document 01").bytes
+    found.expect("an example of the documents").bytes
 }
 
-/// A night's run: E1 to E10, E2 with record 4 as its own parent, and a table without its header.
+/// A night's run: E1 to E11, E2 with record 4 as its own parent, and a table without its header.
 pub struct Night {
     pub bytes: Vec<u8>,
     /// Where the header is missing.
@@ -147,5 +149,17 @@ fn e10() -> Vec<Bytes> {
         store(REL, 2, 7, Y, 1),
         load(ACQ, 3, 4, 8, X, 1),
         load(ACQ, 3, 10, 9, Y, 1),
+    ]
+}
+
+/// Document 02, W2: a lock that both cores took.
+fn e11() -> Vec<Bytes> {
+    vec![
+        init(0, 255),
+        store(REL, 0, 0, X, 0),
+        init(1, 1),
+        init(2, 1),
+        update(AR, 1, 2, 1, X, 0, 1),
+        update(AR, 2, 3, 1, X, 0, 1),
     ]
 }

@@ -1,7 +1,10 @@
-//! The six findings with their least witnesses, the verdict, and what stands on a race.
+//! The seven findings with their least witnesses, the verdict, and what stands on a race.
 
 use crate::relations::{matrix, Matrix, Relations};
-use crate::table::{Order, Record};
+use crate::table::{Kind, Order, Record};
+
+/// Their names, in the report's order.
+pub const FINDINGS: [&str; 7] = ["R", "A1", "A2", "A3", "A4", "A5", "W"];
 
 #[derive(Clone, Debug, PartialEq, Eq)]
 pub struct Findings {
@@ -10,6 +13,7 @@ pub struct Findings {
     pub a2: Option<(usize, usize)>,
     pub a3: Option<(usize, usize)>,
     pub a4: Option<Vec<usize>>,
+    pub a5: Option<(usize, usize)>,
     pub w: Option<(usize, usize)>,
 }
 
@@ -21,7 +25,7 @@ pub enum Verdict {
 }
 
 impl Findings {
-    /// "All six are judged always."
+    /// "All six are judged always." With A5 of request W2 they are seven.
     pub fn of(records: &[Record], rel: &Relations) -> Findings {
         let size = records.len();
         Findings {
@@ -33,6 +37,7 @@ impl Findings {
                 _ => false,
             }),
             a4: least_cycle(&sc_steps(records, rel)),
+            a5: least_pair(size, |p, q| p < q && took_one_token(records, rel, p, q)),
             w: least_pair(size, |p, q| {
                 p < q && records[p].is_write() && records[q].is_write() && rel.race[p][q]
             }),
@@ -45,7 +50,8 @@ impl Findings {
             || self.a1.is_some()
             || self.a2.is_some()
             || self.a3.is_some()
-            || self.a4.is_some();
+            || self.a4.is_some()
+            || self.a5.is_some();
         if self.w.is_some() {
             Verdict::Undefined
         } else if others {
@@ -84,6 +90,16 @@ pub fn racing_writes_stood_on(records: &[Record], rel: &Relations, read: usize) 
     } else {
         Vec::new()
     }
+}
+
+/// "two different updates, not in conflict, have the same source". Two that read u from nothing took
+/// no token.
+fn took_one_token(records: &[Record], rel: &Relations, p: usize, q: usize) -> bool {
+    // The wrong build counts updates in conflict too.
+    let in_conflict = rel.cf[p][q] && !cfg!(feature = "wrong-updates");
+    let both_updates = records[p].kind == Kind::Update && records[q].kind == Kind::Update;
+    let one_source = records[p].source.is_some() && records[p].source == records[q].source;
+    p != q && both_updates && one_source && !in_conflict
 }
 
 /// "hbsc, wb and fr together, among SC records"

@@ -1,8 +1,10 @@
 //! Patterns that hold one chosen finding, in sizes chosen too, and the tables made of them.
 
 use crate::builder::Builder;
+use crate::findings::FINDINGS;
 use crate::record::{load_u, put_written, Bytes};
 use crate::sc_gadgets::{far_fr_ring, init_above_ring, long_way_ring, two_stores_ring, Way};
+use crate::update_gadgets::{taken_twice, update_tables};
 
 const NA: u8 = 0;
 const ACQ: u8 = 1;
@@ -95,19 +97,19 @@ pub fn update_ring(b: &mut Builder, base: u8, length: usize) {
     let inits: Vec<u8> = (0..length).map(|_| b.thread(base)).collect();
     let stores: Vec<u8> = inits.iter().enumerate().map(|(i, &t)| b.store(REL, t, x, i as u16)).collect();
     let updates: Vec<u8> =
-        stores.iter().enumerate().map(|(i, &s)| b.update(base, s, 100 + i as u16)).collect();
+        stores.iter().enumerate().map(|(i, &s)| b.update(SC, base, s, 100 + i as u16)).collect();
     for i in 0..length {
         b.load(ACQ, stores[i], updates[(i + 1) % length]);
     }
 }
 
-/// A4, a cycle of two: two updates of one store.
+/// A4, a cycle of two, and A5: two SC updates of one store.
 pub fn double_update(b: &mut Builder, base: u8) {
     let x = b.location();
     let write = b.store(SC, base, x, 0);
     let (one, other) = (b.thread(write), b.thread(write));
-    b.update(one, write, 1);
-    b.update(other, write, 2);
+    b.update(SC, one, write, 1);
+    b.update(SC, other, write, 2);
 }
 
 /// W, as in E5.
@@ -143,7 +145,7 @@ pub fn several_racing(b: &mut Builder, base: u8) {
         b.store(REL, writer, x, value);
     }
     let updater = b.thread(old);
-    b.update(updater, old, 3);
+    b.update(SC, updater, old, 3);
     let other = b.thread(old);
     b.store(REL, other, y, 1);
     let reader = b.thread(old);
@@ -206,11 +208,12 @@ pub fn relay(threads: usize) -> Vec<Bytes> {
     b.table
 }
 
-/// The pattern of one finding, numbered as R, A1, A2, A3, A4, W, in threads of its own.
+/// The pattern of one finding, numbered as R, A1, A2, A3, A4, A5, W, in threads of its own. All seven
+/// and thread 0 take the sixteen threads that there are.
 pub fn add_finding(b: &mut Builder, finding: usize) {
     match finding {
         1 => return store_ring(b, 0, 2, REL, ACQ),
-        5 => return racing_writes(b, 0),
+        6 => return racing_writes(b, 0),
         _ => {}
     }
     let base = b.thread(0);
@@ -218,19 +221,20 @@ pub fn add_finding(b: &mut Builder, finding: usize) {
         0 => unjustified(b, base),
         2 => conflict_before(b, base),
         3 => conflicting_sources(b, base),
-        _ => sc_ring(b, base, 2, false),
+        4 => sc_ring(b, base, 2, false),
+        _ => taken_twice(b, base),
     }
 }
 
 /// Tables that hold each set of findings, then each finding twice.
 pub fn finding_sets() -> Vec<Vec<Bytes>> {
     let mut tables = Vec::new();
-    for set in 0..64 {
+    for set in 0..1 << FINDINGS.len() {
         let mut b = Builder::default();
-        (0..6).filter(|finding| set >> finding & 1 == 1).for_each(|f| add_finding(&mut b, f));
+        (0..FINDINGS.len()).filter(|finding| set >> finding & 1 == 1).for_each(|f| add_finding(&mut b, f));
         tables.push(b.table);
     }
-    for finding in 0..6 {
+    for finding in 0..FINDINGS.len() {
         let mut b = Builder::default();
         add_finding(&mut b, finding);
         add_finding(&mut b, finding);
@@ -239,7 +243,7 @@ pub fn finding_sets() -> Vec<Vec<Bytes>> {
     tables
 }
 
-/// Tables with cycles of every length that the patterns reach, and with long chains.
+/// Tables with cycles of every length that the patterns reach, with long chains, and with updates.
 pub fn sized_tables() -> Vec<Vec<Bytes>> {
     let mut tables = Vec::new();
     let mut add = |build: &dyn Fn(&mut Builder)| {
@@ -271,5 +275,6 @@ pub fn sized_tables() -> Vec<Vec<Bytes>> {
     tables.extend((3..=64).map(far_read));
     tables.extend((1..=15).map(relay));
     tables.extend((0..=58).step_by(6).map(far_standing));
+    tables.extend(update_tables());
     tables
 }

@@ -1,10 +1,11 @@
-//! The generator: questions from a seed, E1 to E10 first.
+//! The generator: questions from a seed, E1 to E11 first.
 
 use crate::ask_batches::ask_batches;
 use crate::asking::{ask_append, ask_cut, ask_fetch, closed_selection, unsettle};
 use crate::builder::Builder;
 use crate::damage::{damage, damage_once, scatter};
 use crate::examples::{example, examples};
+use crate::findings::FINDINGS;
 use crate::gadgets::{
     add_finding, far_read, far_standing, finding_sets, several_racing, sized_tables, standing_on_races,
 };
@@ -62,7 +63,7 @@ fn edges() -> Vec<Question> {
     list
 }
 
-/// Each set of findings, each cycle length and each chain length, as built and shuffled.
+/// Each set of findings, each cycle length, each chain length and the updates, as built and shuffled.
 fn gadget_tables(random: &mut Random) -> Vec<Question> {
     let mut list = Vec::new();
     for table in finding_sets().into_iter().chain(sized_tables()) {
@@ -217,7 +218,7 @@ pub fn any_table(random: &mut Random) -> Vec<Bytes> {
 fn grown_on_findings(random: &mut Random) -> Vec<Bytes> {
     let mut b = Builder::default();
     for _ in 0..1 + random.below(3) {
-        add_finding(&mut b, random.below(6));
+        add_finding(&mut b, random.below(FINDINGS.len()));
     }
     let size = (b.table.len() + random.below(20)).min(64);
     let profile = random.pick(&PROFILES);

@@ -38,7 +38,7 @@ const MIXED: Profile = Profile {
 pub const RACES: Profile =
     Profile { locations: 2, threads: 5, orders: [3, 1, 1], no_source: 60, u: 15, ..MIXED };
 
-pub const PROFILES: [Profile; 15] = [
+pub const PROFILES: [Profile; 17] = [
     MIXED,
     RACES,
     Profile { new_thread: 2, branch: 3, follow_last: 95, ..MIXED },
@@ -54,6 +54,18 @@ pub const PROFILES: [Profile; 15] = [
     Profile { orders: [1, 0, 0], threads: 1, u: 0, latest_source: 100, branch: 0, ..MIXED },
     Profile { branch: 60, locations: 2, threads: 3, ..MIXED },
     Profile { orders: [0, 1, 1], latest_source: 100, no_source: 0, u: 0, branch: 2, ..MIXED },
+    // Tokens taken twice, apart and on arms.
+    Profile { orders: [0, 1, 0], kinds: [1, 1, 4], locations: 4, branch: 25, u: 4, ..MIXED },
+    // Locks that hold.
+    Profile {
+        orders: [0, 1, 0],
+        kinds: [1, 0, 6],
+        locations: 2,
+        latest_source: 100,
+        no_source: 0,
+        u: 0,
+        ..MIXED
+    },
 ];
 
 /// Adds records to a well-formed table until it has so many.

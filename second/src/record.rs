@@ -45,10 +45,17 @@ pub fn store(order: u8, thread: u8, parent: u8, location: u8, written: u16) -> B
 }
 
 pub fn update(order: u8, thread: u8, parent: u8, source: u8, location: u8, read: u16, written: u16) -> Bytes {
+    let mut record = update_u(order, thread, parent, source, location, written);
+    put_read(&mut record, Some(read));
+    record
+}
+
+/// An update that reads u.
+pub fn update_u(order: u8, thread: u8, parent: u8, source: u8, location: u8, written: u16) -> Bytes {
     let mut record = blank(3, order, thread, parent);
     record[6] = source;
     record[7] = location;
-    put_read(&mut record, Some(read));
+    put_read(&mut record, None);
     put_written(&mut record, Some(written));
     record
 }

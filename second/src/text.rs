@@ -28,6 +28,7 @@ fn report(events: usize, findings: &Findings) -> String {
     text += &finding_line("A2", pair(findings.a2));
     text += &finding_line("A3", pair(findings.a3));
     text += &finding_line("A4", findings.a4.clone());
+    text += &finding_line("A5", pair(findings.a5));
     text += &finding_line("W", pair(findings.w));
     let verdict = match findings.verdict() {
         Verdict::Consistent => "consistent",

@@ -96,8 +96,8 @@ fn questions_come_back_as_they_were_written() {
     assert_eq!(all_questions(&bytes), Ok(list.clone()));
     let text: String = list.iter().map(|question| question.answer(usize::MAX)).collect();
     let answers = split_answers(&list, &text).unwrap();
-    assert_eq!(answers[10], ["refused 11 at 0", ""]);
-    assert_eq!(answers[11], ["refused 1 at 0", ""]);
-    assert_eq!(answers[12], ["", "refused 13 at 300"]);
+    assert_eq!(answers[11], ["refused 11 at 0", ""]);
+    assert_eq!(answers[12], ["refused 1 at 0", ""]);
+    assert_eq!(answers[13], ["", "refused 13 at 300"]);
     assert!(split_answers(&list, &text[..text.len() - 1]).is_err());
 }

@@ -1,11 +1,11 @@
-//! second-examples DIR: writes E1 to E10 as tables, a batch of them, and a README that says what each shows.
+//! second-examples DIR: writes E1 to E11 as tables, a batch of them, and a README that says what each shows.
 
 use second::examples::{examples, night};
 use std::fs;
 use std::path::Path;
 use std::process::exit;
 
-const OPENING: &str = "# The small structures of document 01\n\n\
+const OPENING: &str = "# The small structures of document 01, and E11 of document 02 (W2)\n\n\
 Each `.table` is a whole table, sixteen bytes a record; `night.batch` is a batch of tables. `second-examples DIR` (in `second/`) writes them again.\n\n";
 
 fn main() -> std::io::Result<()> {
@@ -24,7 +24,7 @@ fn main() -> std::io::Result<()> {
     let night = night();
     fs::write(Path::new(folder).join("night.batch"), &night.bytes)?;
     readme += &format!(
-        "- `night.batch`: E1 to E10, then E2 with record 4 as its own parent (`refused 6 at 4`), then a table \
+        "- `night.batch`: E1 to E11, then E2 with record 4 as its own parent (`refused 6 at 4`), then a table \
          without its header, which ends the batch with `refused 14 at {}`.\n",
         night.ends_at
     );
