@@ -93,16 +93,18 @@ fn judge_records(table: &[u8], first: &mut [u8], second: &mut [u8]) -> Judged
     }
 }
 
-// The judging of a table: "Order of a judging: 1, 11, then records."
+// The judging of a table: "Order of a judging: 1, 11, then records." The answer stands in a local, and there is one way out: a way out before the frame
+// of this function is made has been compiled wrong (docs/DECISIONS.md, 37).
 pub fn judge(table: &[u8], first: &mut [u8], second: &mut [u8]) -> Judged
     ensures { λ r. ⌜ JudgeAnswer (now (table .entry)) (now (first .entry)) (now (first .exit)) (now (second .entry)) (now (second .exit)) r ⌝ }
 {
     let len = table.len();
+    let mut judged = Judged::Refused(Refusal::Length);
     if length_ok(len) {
+        judged = Judged::Refused(Refusal::Room);
         if has_room(first.len(), second.len()) {
-            return judge_records(table, first, second);
+            judged = judge_records(table, first, second);
         }
-        return Judged::Refused(Refusal::Room);
     }
-    Judged::Refused(Refusal::Length)
+    judged
 }
