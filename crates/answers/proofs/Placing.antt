@@ -8,7 +8,7 @@ use lib.Seq.{drop-drop, take-length}
 use Rattle.refusals.specs.declared.Refusal.{Refusal}
 use Rattle.lines.specs.declared.Wrote.{Wrote}
 use Rattle.lines.specs.declared.Wrote.the-variants.{Refused, Length}
-use Rattle.lines.specs.Answer.{WriteAnswer}
+use Rattle.lines.specs.Answer.{Writes, WriteAnswer}
 use Rattle.lines.proofs.Answering.{text-within}
 use Rattle.answers.specs.Room.{TextPut}
 
@@ -25,13 +25,13 @@ module _ (b before : List ℕ) (at : ℕ) (room : at + (24 + 6 * length b) ≤ l
   never-refused {after = after} {r = r} w is = go (subst (WriteAnswer b (rest before at) after) is w)
     where
       go : {A : Type 0} → WriteAnswer b (rest before at) after (Refused r) → A
-      go (WriteAnswer.no-room t h _ _) = absurd (omega (arith, text-within t, ap length all-of-it, length-drop at before))
+      go (Writes.no-room t h _ _) = absurd (omega (arith, text-within t, ap length all-of-it, length-drop at before))
 
   pub fits-there : {after : List ℕ} {x : Wrote} {len : ℕ} → WriteAnswer b (rest before at) after x → x ≡ Length len → at + len ≤ length before
   fits-there {after} {len = len} w is = go (subst (WriteAnswer b (rest before at) after) is w)
     where
       go : WriteAnswer b (rest before at) after (Length len) → at + len ≤ length before
-      go (WriteAnswer.written _ _ h _) = omega (arith, ap length all-of-it, length-drop at before)
+      go (Writes.written _ _ h _) = omega (arith, ap length all-of-it, length-drop at before)
 
   pub put-there :
       {after : List ℕ} {x : Wrote} {len : ℕ} → WriteAnswer b (rest before at) after x → x ≡ Length len
@@ -39,7 +39,7 @@ module _ (b before : List ℕ) (at : ℕ) (room : at + (24 + 6 * length b) ≤ l
   put-there {after} {len = len} w is = go (subst (WriteAnswer b (rest before at) after) is w)
     where
       go : WriteAnswer b (rest before at) after (Length len) → TextPut b before at (take at before ++ (after ++ drop (length before - at) (drop at before))) (at + len)
-      go (WriteAnswer.written {text = text} t long h e) = record {
+      go (Writes.written {text = text} t long h e) = record {
         text = text;
         is = t;
         written = record {

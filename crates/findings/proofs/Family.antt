@@ -1,7 +1,7 @@
 -- Every finding has its place in the order of the report.
 use mathlib.Core.Path.{_≡_, refl}
 use mathlib.Core.List.{map}
-use Prim.Native.Nat.{_<_}
+use Prim.Native.Nat.{ℕ, zero, suc, _<_}
 use native.Mathlib.Omega.{arith}
 use lib.ListN.{length, getD}
 use Rattle.findings.specs.declared.Finding.{Finding}
@@ -30,6 +30,17 @@ place-below W = omega arith
 
 pub finding-at : (f : Finding) → findingAt (placeOf f) ≡ f
 finding-at = at-place (λ (f : Finding). f) R
+
+-- and the place of the finding at a place is that place
+pub place-at : (k : ℕ) → k < length inOrder → placeOf (findingAt k) ≡ k
+place-at zero h = refl
+place-at (suc zero) h = refl
+place-at (suc (suc zero)) h = refl
+place-at (suc (suc (suc zero))) h = refl
+place-at (suc (suc (suc (suc zero)))) h = refl
+place-at (suc (suc (suc (suc (suc zero))))) h = refl
+place-at (suc (suc (suc (suc (suc (suc zero)))))) h = refl
+place-at (suc (suc (suc (suc (suc (suc (suc k))))))) h = absurd (omega arith)
 
 -- what was found is known by what was found of each
 pub findings-one : {x y : Findings} → ((f : Finding) → foundOf x f ≡ foundOf y f) → x ≡ y

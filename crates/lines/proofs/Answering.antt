@@ -1,15 +1,12 @@
 -- The text of a table's answer fits, and stands at the front of the buffer where it was written.
-use mathlib.Core.Path.{_≡_, refl, sym, ap, subst, _∙_}
-use mathlib.Core.List.{List, _++_}
+use mathlib.Core.Path.{sym, subst}
+use mathlib.Core.List.{List}
 use Prim.Native.Nat.{ℕ, _+_, _*_, _<_, _≤_}
-use native.Mathlib.Nat.{zero-add}
 use native.Mathlib.Omega.{arith}
-use lib.ListN.{length, take, drop}
-use lib.Seq.{take-at, length-take-le}
+use lib.ListN.{length}
 use Rattle.refusals.specs.declared.Fault.{Fault}
 use Rattle.refusals.specs.declared.Fault.the-variants.{Mark, Kind, Rest, Range, Parent, Source, Twin}
 use Rattle.refusals.specs.declared.Refusal.{Refusal}
-use Rattle.refusals.specs.declared.Refusal.the-variants as refusal
 use Rattle.refusals.specs.declared.Told.{Told}
 use Rattle.refusals.specs.Numbers.{at, faultNumber, told}
 use Rattle.findings.specs.Family.{inOrder}
@@ -21,12 +18,11 @@ use Rattle.table.proofs.Front.{right-length}
 use Rattle.table.proofs.WellFormed.{sound-count}
 use Rattle.facts.proofs.Promise.{sound-table}
 use Rattle.text.specs.Text.{Written}
-use Rattle.text.proofs.Laws.{written-length}
 use Rattle.lines.specs.Lines.{reportText, refusedText}
 use Rattle.lines.specs.Room.{Room, longest}
-use Rattle.lines.specs.declared.Wrote.the-variants.{Refused, Length}
-use Rattle.lines.specs.Answer.{TextOf, TextAt, WriteAnswer}
+use Rattle.lines.specs.Answer.{TextOf, TextAt}
 use Rattle.lines.proofs.Lengths.{refused-short, report-short}
+use Rattle.lines.proofs.Handing.{front-there}
 
 -- ---- every text fits
 
@@ -83,23 +79,4 @@ module _ {b : List ℕ} (out : List ℕ) (room : longest ≤ length out) {text :
   text-room = omega (arith, text-short is)
 
   pub text-at : {after : List ℕ} {len : ℕ} → Written out 0 text after len → TextAt b after len
-  text-at {after} {len} w = record {
-    text = subst (TextOf b) (sym (ap (take len) (w .holds) ∙ take-at text (drop (0 + length text) out) len (sym long))) is;
-    within = omega (arith, text-room, written-length text-room w, long);
-  }
-    where
-      long : len ≡ length text
-      long = w .next ∙ zero-add (length text)
-
--- the text is copied to where it was asked for
-module _ {b text : List ℕ} {len : ℕ} (at : TextAt b text len) where
-  pub text-long : length (take len text) ≡ len
-  text-long = length-take-le len text (at .within)
-
-  pub no-room-for : (before : List ℕ) → length before < len → WriteAnswer b before before (Refused refusal.Room)
-  no-room-for before h = WriteAnswer.no-room (at .text) (omega (arith, text-long)) refl refl
-
-  pub copied : (before : List ℕ) → len ≤ length before → {after : List ℕ} {r : ℕ} → Written before 0 (take len text) after r → WriteAnswer b before after (Length len)
-  copied before h w =
-      WriteAnswer.written (at .text) (sym text-long) h
-      (w .holds ∙ ap (λ (n : ℕ). take len text ++ drop n before) (zero-add (length (take len text)) ∙ text-long))
+  text-at w = front-there (TextOf b) out is text-room w

@@ -38,13 +38,13 @@ digits-within k bound n h shorter = go (decLt n 10)
 decimal-1 : (n : ℕ) → n < 10 → length (decimal n) ≤ 1
 decimal-1 n h = omega (arith, ap length (decimal-one n h))
 
-decimal-3 : (n : ℕ) → n < 1000 → length (decimal n) ≤ 3
+pub decimal-3 : (n : ℕ) → n < 1000 → length (decimal n) ≤ 3
 decimal-3 n h = digits-within 2 100 n h (λ m l. digits-within 1 10 m l decimal-1)
 
-decimal-5 : (n : ℕ) → n < 100000 → length (decimal n) ≤ 5
+pub decimal-5 : (n : ℕ) → n < 100000 → length (decimal n) ≤ 5
 decimal-5 n h = digits-within 4 10000 n h (λ m l. digits-within 3 1000 m l decimal-3)
 
-line-length : (name rest : List ℕ) → length (line name rest) ≡ length name + length rest + 1
+pub line-length : (name rest : List ℕ) → length (line name rest) ≡ length name + length rest + 1
 line-length name rest =
     let a = length-append name (rest ++ (10 ∷ [])) in
     let b = length-append rest (10 ∷ []) in

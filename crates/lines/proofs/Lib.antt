@@ -2,6 +2,7 @@
 pub mod Pieces
 pub mod Reading
 pub mod Lengths
+pub mod Handing
 pub mod Answering
 pub mod Telling
 pub mod Unique

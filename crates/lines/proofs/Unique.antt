@@ -1,12 +1,10 @@
 -- A table has one text, and writing it has one result.
-use mathlib.Core.Path.{_≡_, sym, ap, ap₂, _∙_}
-use mathlib.Core.List.{List, _++_}
+use mathlib.Core.Path.{_≡_, ap, ap₂}
+use mathlib.Core.List.{List}
 use Prim.Native.Nat.{ℕ}
 use native.Mathlib.Omega.{arith}
-use lib.ListN.{length, drop}
 use Rattle.refusals.specs.declared.Refusal.{Refusal}
 use Rattle.refusals.specs.Numbers.{told}
-use Rattle.refusals.proofs.Known.{same-refusal}
 use Rattle.model.specs.Findings.{Report}
 use Rattle.model.proofs.Unique.{one-report}
 use Rattle.table.specs.declared.Tested.the-variants as tested
@@ -14,13 +12,8 @@ use Rattle.table.specs.Events.{eventsOf}
 use Rattle.table.proofs.Unique.{test-one}
 use Rattle.lines.specs.Lines.{reportText, refusedText}
 use Rattle.lines.specs.declared.Wrote.{Wrote}
-use Rattle.lines.specs.declared.Wrote.the-variants.{Refused, Length}
 use Rattle.lines.specs.Answer.{TextOf, WriteAnswer}
-
--- the same answer, and the same bytes
-pub record OneResult (x y : Wrote) (after after′ : List ℕ) : Type 0 where
-  pub result : x ≡ y
-  pub bytes : after ≡ after′
+use Rattle.lines.proofs.Handing.{OneResult, writes-one}
 
 -- no table is both refused and sound
 apart : {A : Type 0} {r : Refusal} {n : ℕ} → tested.Refused r ≡ tested.Sound n → A
@@ -43,11 +36,4 @@ module _ {b : List ℕ} where
       same e = cc
 
   pub write-one : {before after after′ : List ℕ} {x y : Wrote} → WriteAnswer b before after x → WriteAnswer b before after′ y → OneResult x y after after′
-  write-one (WriteAnswer.no-room _ _ k e) (WriteAnswer.no-room _ _ l e′) =
-      record { result = ap Refused (same-refusal k l); bytes = e ∙ sym e′ }
-  write-one (WriteAnswer.no-room t h _ _) (WriteAnswer.written u e l _) = absurd (omega (arith, ap length (text-one t u)))
-  write-one (WriteAnswer.written t e l _) (WriteAnswer.no-room u h _ _) = absurd (omega (arith, ap length (text-one t u)))
-  write-one {before} (WriteAnswer.written {text = s} {len = m} t e _ a) (WriteAnswer.written {text = u} {len = n} v f _ c) =
-      let w = text-one t v in
-      let same : m ≡ n = e ∙ ap length w ∙ sym f in
-      record { result = ap Length same; bytes = a ∙ ap₂ (λ (l : List ℕ) (k : ℕ). l ++ drop k before) w same ∙ sym c }
+  write-one = writes-one (TextOf b) (λ s u. text-one)

@@ -18,12 +18,27 @@ pub data TextOf (b : List ℕ) : List ℕ → Type 0 where
   refused : {r : Refusal} → TestAnswer b (tested.Refused r) → TextOf b (refusedText (told r))
   reported : {n : ℕ} {x : Report} → TestAnswer b (tested.Sound n) → Reports (eventsOf b) x → TextOf b (reportText n (x .witness) (x .verdict))
 
--- the text stands at the front of a buffer
-pub record TextAt (b out : List ℕ) (len : ℕ) : Type 0 where
-  pub text : TextOf b (take len out)
-  pub within : len ≤ length out
+-- ---- a text into a lent buffer; Such says which text it is
 
--- "11 last, by what it would write; bytes past that stay. A refusal changes nothing lent."
-pub data WriteAnswer (b before after : List ℕ) : Wrote → Type 0 where
-  no-room : {text : List ℕ} {r : Refusal} → TextOf b text → length before < length text → told r ≡ at 11 0 → after ≡ before → WriteAnswer b before after (Refused r)
-  written : {text : List ℕ} {len : ℕ} → TextOf b text → len ≡ length text → len ≤ length before → after ≡ text ++ drop len before → WriteAnswer b before after (Length len)
+-- the text t
+pub data IsText (t : List ℕ) : List ℕ → Type 0 where
+  the-text : IsText t t
+
+module _ (Such : List ℕ → Type 0) where
+  -- it stands at the front of a buffer
+  pub record Front (out : List ℕ) (len : ℕ) : Type 0 where
+    pub text : Such (take len out)
+    pub within : len ≤ length out
+
+  -- "11 last, by what it would write; bytes past that stay. A refusal changes nothing lent."
+  pub data Writes (before after : List ℕ) : Wrote → Type 0 where
+    no-room : {text : List ℕ} {r : Refusal} → Such text → length before < length text → told r ≡ at 11 0 → after ≡ before → Writes before after (Refused r)
+    written : {text : List ℕ} {len : ℕ} → Such text → len ≡ length text → len ≤ length before → after ≡ text ++ drop len before → Writes before after (Length len)
+
+-- ---- the table's
+
+abbrev pub TextAt : List ℕ → List ℕ → ℕ → Type 0
+TextAt b = Front (TextOf b)
+
+abbrev pub WriteAnswer : List ℕ → List ℕ → List ℕ → Wrote → Type 0
+WriteAnswer b = Writes (TextOf b)

@@ -14,11 +14,11 @@ use text::put_spaced;
 ghost use Prim.Native.Nat.{_≤_};
 ghost use lib.ListN.{length};
 ghost use Rattle.text.specs.Text.{Written, spaced};
-ghost use Rattle.lines.specs.Lines.{line, verdictText, eventsWord, verdictWord, reportText, placeText, refusedText};
+ghost use Rattle.lines.specs.Lines.{line, verdictText, verdictWord, reportText, placeText, refusedText};
 ghost use Rattle.lines.specs.Room.{Room, longest};
 ghost use Rattle.lines.specs.Witnesses.{witnesses, AllWhole};
 ghost use Rattle.lines.specs.Judged.{judgedText, JudgedWhole};
-ghost use Rattle.lines.specs.Answer.{TextAt, WriteAnswer};
+ghost use Rattle.lines.specs.Answer.{IsText, Writes, TextAt, WriteAnswer};
 
 // Room for the longest text: `longest` of the definitions.
 pub const TEXT: usize = 32 + Finding::COUNT * (8 + 4 * LIMIT);
@@ -29,12 +29,13 @@ pub enum Wrote {
     Length(usize),
 }
 
-fn events_line(out: &mut [u8], at: usize, count: usize) -> usize
-    requires { ⌜ Room (now out) at (line eventsWord (spaced count)) ⌝ }
-    ensures { λ r. ⌜ Written (now (out .entry)) at (line eventsWord (spaced count)) (now (out .exit)) r ⌝ }
+// A line of a name and a number.
+pub fn number_line(out: &mut [u8], at: usize, name: &[u8], number: usize) -> usize
+    requires { ⌜ Room (now out) at (line (now name) (spaced number)) ⌝ }
+    ensures { λ r. ⌜ Written (now (out .entry)) at (line (now (name .entry)) (spaced number)) (now (out .exit)) r ⌝ }
 {
-    let name = put(out, at, b"events");
-    let rest = put_spaced(out, name, count);
+    let word = put(out, at, name);
+    let rest = put_spaced(out, word, number);
     put(out, rest, b"\n")
 }
 
@@ -61,7 +62,7 @@ fn put_report<'a>(
     requires { ⌜ Room (now out) 0 (reportText events (witnesses x (now first) (now second)) verdict) × AllWhole x (now first) (now second) ⌝ }
     ensures { λ r. ⌜ Written (now (out .entry)) 0 (reportText events (witnesses x (now (first .entry)) (now (second .entry))) verdict) (now (out .exit)) r ⌝ }
 {
-    let found = events_line(out, 0, events);
+    let found = number_line(out, 0, b"events", events);
     let last = put_findings(out, found, x, first, second);
     verdict_line(out, last, verdict)
 }
@@ -77,11 +78,11 @@ fn put_place(out: &mut [u8], at: usize, told: Told) -> usize
 }
 
 // "A refused table gives one line".
-fn put_refused(out: &mut [u8], told: Told) -> usize
-    requires { ⌜ Room (now out) 0 (refusedText told) ⌝ }
-    ensures { λ r. ⌜ Written (now (out .entry)) 0 (refusedText told) (now (out .exit)) r ⌝ }
+pub fn put_refused(out: &mut [u8], at: usize, told: Told) -> usize
+    requires { ⌜ Room (now out) at (refusedText told) ⌝ }
+    ensures { λ r. ⌜ Written (now (out .entry)) at (refusedText told) (now (out .exit)) r ⌝ }
 {
-    let word = put(out, 0, b"refused");
+    let word = put(out, at, b"refused");
     let rest = put_place(out, word, told);
     put(out, rest, b"\n")
 }
@@ -92,7 +93,7 @@ pub fn put_judged<'a>(judged: Judged, first: &'a [u8], second: &'a [u8], out: &m
     ensures { λ r. ⌜ Written (now (out .entry)) 0 (judgedText judged (now (first .entry)) (now (second .entry))) (now (out .exit)) r ⌝ }
 {
     match judged {
-        Judged::Refused(r) => put_refused(out, r.told()),
+        Judged::Refused(r) => put_refused(out, 0, r.told()),
         Judged::Reported(x) => {
             let found = x.findings;
             let verdict = x.verdict;
@@ -112,15 +113,23 @@ fn put_answer(table: &[u8], out: &mut [u8]) -> usize
     put_judged(judged, &first, &second, out)
 }
 
+// A text that was made aside, where it has room.
+pub fn hand_over(text: &[u8], out: &mut [u8]) -> Wrote
+    ensures { λ r. ⌜ Writes (IsText (now (text .entry))) (now (out .entry)) (now (out .exit)) r ⌝ }
+{
+    let len = text.len();
+    if out.len() < len {
+        return Wrote::Refused(Refusal::Room);
+    }
+    put(out, 0, text);
+    Wrote::Length(len)
+}
+
 // Writes the answer of a judging as text: the report's lines, or the refusal's.
 pub fn write_answer(table: &[u8], out: &mut [u8]) -> Wrote
     ensures { λ r. ⌜ WriteAnswer (now (table .entry)) (now (out .entry)) (now (out .exit)) r ⌝ }
 {
     let mut text = [0u8; TEXT];
     let len = put_answer(table, &mut text);
-    if out.len() < len {
-        return Wrote::Refused(Refusal::Room);
-    }
-    put(out, 0, &text[..len]);
-    Wrote::Length(len)
+    hand_over(&text[..len], out)
 }

@@ -11,7 +11,7 @@ unfolding refusedText
 put-requires c κs =
     let entry = c .before .before .before in
     let a = entry .args in
-    first-room (a .out .now) 0 refusedWord (placeText (a .told)) (10 ∷ []) (entry .pre)
+    first-room (a .out .now) (a .at) refusedWord (placeText (a .told)) (10 ∷ []) (entry .pre)
 
 put-place-requires : tie.Need-put-place-requires
 unfolding refusedText
@@ -19,7 +19,7 @@ put-place-requires c κs =
     let word = c .before .before .before in
     let entry = word .before .before .before .before in
     let a = entry .args in
-    second-room (a .out .now) 0 refusedWord (placeText (a .told)) (10 ∷ []) (entry .pre) (word .put .ensures)
+    second-room (a .out .now) (a .at) refusedWord (placeText (a .told)) (10 ∷ []) (entry .pre) (word .put .ensures)
 
 put-requires-2 : tie.Need-put-requires-2
 unfolding refusedText
@@ -28,7 +28,7 @@ put-requires-2 c κs =
     let word = place .before .before .before .before in
     let entry = word .before .before .before .before in
     let a = entry .args in
-    third-room (a .out .now) 0 refusedWord (placeText (a .told)) (10 ∷ []) (entry .pre) (word .put .ensures) (place .put-place .ensures)
+    third-room (a .out .now) (a .at) refusedWord (placeText (a .told)) (10 ∷ []) (entry .pre) (word .put .ensures) (place .put-place .ensures)
 
 returns : tie.Need-returns
 unfolding refusedText
@@ -38,7 +38,7 @@ returns c =
     let word = place .before .before .before .before in
     let entry = word .before .before .before .before in
     let a = entry .args in
-    all-three (a .out .now) 0 refusedWord (placeText (a .told)) (10 ∷ []) (entry .pre) (word .put .ensures) (place .put-place .ensures) (end .put2 .ensures)
+    all-three (a .out .now) (a .at) refusedWord (placeText (a .told)) (10 ∷ []) (entry .pre) (word .put .ensures) (place .put-place .ensures) (end .put2 .ensures)
 
 pub put-refused-spec : {M : Type 1} → statement M
 put-refused-spec =

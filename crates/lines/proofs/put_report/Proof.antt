@@ -21,10 +21,10 @@ lines x first second = linesOf (witnesses x first second) inOrder
 abbrev last : Verdict → List ℕ
 last verdict = line verdictWord (verdictText verdict)
 
-events-line-requires : tie.Need-events-line-requires
+number-line-requires : tie.Need-number-line-requires
 unfolding reportText
-events-line-requires c κs =
-    let entry = c .before .before .before .before in
+number-line-requires c κs =
+    let entry = c .before .before .before .before .before in
     let a = entry .args in
     first-room (a .out .now) 0 (count (a .events)) (lines (a .x) (a .first .now) (a .second .now)) (last (a .verdict)) (entry .pre .0)
 
@@ -32,18 +32,18 @@ put-findings-requires : tie.Need-put-findings-requires
 unfolding reportText
 put-findings-requires c κs =
     let events = c .before .before .before in
-    let entry = events .before .before .before .before .before in
+    let entry = events .before .before .before .before .before .before in
     let a = entry .args in
-    (second-room (a .out .now) 0 (count (a .events)) (lines (a .x) (a .first .now) (a .second .now)) (last (a .verdict)) (entry .pre .0) (events .events-line .ensures), entry .pre .1)
+    (second-room (a .out .now) 0 (count (a .events)) (lines (a .x) (a .first .now) (a .second .now)) (last (a .verdict)) (entry .pre .0) (events .number-line .ensures), entry .pre .1)
 
 verdict-line-requires : tie.Need-verdict-line-requires
 unfolding reportText
 verdict-line-requires c κs =
     let findings = c .before .before .before in
     let events = findings .before .before .before .before in
-    let entry = events .before .before .before .before .before in
+    let entry = events .before .before .before .before .before .before in
     let a = entry .args in
-    third-room (a .out .now) 0 (count (a .events)) (lines (a .x) (a .first .now) (a .second .now)) (last (a .verdict)) (entry .pre .0) (events .events-line .ensures) (findings .put-findings .ensures)
+    third-room (a .out .now) 0 (count (a .events)) (lines (a .x) (a .first .now) (a .second .now)) (last (a .verdict)) (entry .pre .0) (events .number-line .ensures) (findings .put-findings .ensures)
 
 returns : tie.Need-returns
 unfolding reportText
@@ -51,10 +51,10 @@ returns c =
     let verdict = c .before .before in
     let findings = verdict .before .before .before .before in
     let events = findings .before .before .before .before in
-    let entry = events .before .before .before .before .before in
+    let entry = events .before .before .before .before .before .before in
     let a = entry .args in
-    all-three (a .out .now) 0 (count (a .events)) (lines (a .x) (a .first .now) (a .second .now)) (last (a .verdict)) (entry .pre .0) (events .events-line .ensures) (findings .put-findings .ensures) (verdict .verdict-line .ensures)
+    all-three (a .out .now) 0 (count (a .events)) (lines (a .x) (a .first .now) (a .second .now)) (last (a .verdict)) (entry .pre .0) (events .number-line .ensures) (findings .put-findings .ensures) (verdict .verdict-line .ensures)
 
 pub put-report-spec : {M : Type 1} → statement M
 put-report-spec =
-    tie.close (tie.spec events-line-requires put-findings-requires verdict-line-requires (search needs) returns)
+    tie.close (tie.spec (search needs) number-line-requires put-findings-requires verdict-line-requires (search needs) returns)

@@ -1,37 +1,21 @@
--- `write_answer` meets its contract: the text is made aside, and copied if it has room.
+-- `write_answer` meets its contract: the text is made aside, and handed over.
 use mathlib.Core.Path.{sym}
-use native.Mathlib.Omega.{arith}
 use borrow.Author.Needs.{needs}
-use Rattle.lines.proofs.Answering.{text-long, no-room-for, copied}
+use Rattle.lines.specs.Answer.{TextOf}
+use Rattle.lines.proofs.Handing.{front-long, writes-such}
 use Rattle.lines.proofs.write_answer.Statement.{statement}
 use Rattle.lines.proofs.write_answer.Tie as tie
 
+slice-aggregate-hand-over : tie.Need-slice-aggregate-hand-over
+slice-aggregate-hand-over c = sym (front-long (TextOf _) (c .before .before .put-answer .ensures))
+
 returns : tie.Need-returns
 returns c =
-    let made = c .before .before in
-    let entry = made .before .before .before .before in
-    no-room-for (made .put-answer .ensures) (entry .args .out .now) (omega (arith, c .if1 .taken))
-
-slice-aggregate-put : tie.Need-slice-aggregate-put
-slice-aggregate-put c =
-    let put-answer = c .before .before .before .before .put-answer in
-    sym (text-long (put-answer .ensures))
-
-put-requires : tie.Need-put-requires
-put-requires c κs =
-    let room = c .before .before in
-    let made = room .before .before in
-    omega (arith, text-long (made .put-answer .ensures), room .if1 .left)
-
-returns-2 : tie.Need-returns-2
-returns-2 c =
-    let copy = c .before .before in
-    let room = copy .before .before .before in
-    let made = room .before .before in
-    let entry = made .before .before .before .before in
-    copied (made .put-answer .ensures) (entry .args .out .now) (omega (arith, room .if1 .left)) (copy .put .ensures)
+    let write = c .before .before in
+    let made = write .before .before .before .before in
+    writes-such (TextOf _) (made .put-answer .ensures .text) (write .hand-over .ensures)
 
 pub write-answer-spec : {M : Type 1} → statement M
 write-answer-spec =
     tie.close
-    (tie.spec (search needs) (λ c κs. search needs) returns (search needs) slice-aggregate-put put-requires (search needs) returns-2)
+    (tie.spec (search needs) (λ c κs. search needs) (search needs) slice-aggregate-hand-over (λ c κs. search needs) (search needs) returns)

@@ -1,24 +1,23 @@
--- `events_line` meets its contract: the word, the count, the line end.
+-- `number_line` meets its contract: the name, the number, the line end.
 use mathlib.Core.List.{[], _∷_}
 use borrow.Author.Needs.{needs}
 use Rattle.text.specs.Text.{spaced}
-use Rattle.lines.specs.Lines.{eventsWord}
 use Rattle.lines.proofs.Pieces.{first-room, second-room, third-room, all-three}
-use Rattle.lines.proofs.events_line.Statement.{statement}
-use Rattle.lines.proofs.events_line.Tie as tie
+use Rattle.lines.proofs.number_line.Statement.{statement}
+use Rattle.lines.proofs.number_line.Tie as tie
 
 put-requires : tie.Need-put-requires
 put-requires c κs =
     let entry = c .before .before .before in
     let a = entry .args in
-    first-room (a .out .now) (a .at) eventsWord (spaced (a .count)) (10 ∷ []) (entry .pre)
+    first-room (a .out .now) (a .at) (a .name .now) (spaced (a .number)) (10 ∷ []) (entry .pre)
 
 put-spaced-requires : tie.Need-put-spaced-requires
 put-spaced-requires c κs =
     let word = c .before .before .before in
     let entry = word .before .before .before .before in
     let a = entry .args in
-    second-room (a .out .now) (a .at) eventsWord (spaced (a .count)) (10 ∷ []) (entry .pre) (word .put .ensures)
+    second-room (a .out .now) (a .at) (a .name .now) (spaced (a .number)) (10 ∷ []) (entry .pre) (word .put .ensures)
 
 put-requires-2 : tie.Need-put-requires-2
 put-requires-2 c κs =
@@ -26,7 +25,7 @@ put-requires-2 c κs =
     let word = count .before .before .before .before in
     let entry = word .before .before .before .before in
     let a = entry .args in
-    third-room (a .out .now) (a .at) eventsWord (spaced (a .count)) (10 ∷ []) (entry .pre) (word .put .ensures) (count .put-spaced .ensures)
+    third-room (a .out .now) (a .at) (a .name .now) (spaced (a .number)) (10 ∷ []) (entry .pre) (word .put .ensures) (count .put-spaced .ensures)
 
 returns : tie.Need-returns
 returns c =
@@ -35,8 +34,8 @@ returns c =
     let word = count .before .before .before .before in
     let entry = word .before .before .before .before in
     let a = entry .args in
-    all-three (a .out .now) (a .at) eventsWord (spaced (a .count)) (10 ∷ []) (entry .pre) (word .put .ensures) (count .put-spaced .ensures) (end .put2 .ensures)
+    all-three (a .out .now) (a .at) (a .name .now) (spaced (a .number)) (10 ∷ []) (entry .pre) (word .put .ensures) (count .put-spaced .ensures) (end .put2 .ensures)
 
-pub events-line-spec : {M : Type 1} → statement M
-events-line-spec =
-    tie.close (tie.spec (search needs) put-requires put-spaced-requires (search needs) put-requires-2 (search needs) returns)
+pub number-line-spec : {M : Type 1} → statement M
+number-line-spec =
+    tie.close (tie.spec put-requires put-spaced-requires (search needs) put-requires-2 (search needs) returns)
