@@ -4,8 +4,9 @@ use mathlib.Core.List.{List, [], _∷_}
 use Prim.Native.Nat.{ℕ, zero, suc, _-_, _<_}
 use native.Mathlib.Omega.{arith}
 use lib.ListN.{length}
-use Rattle.batches.specs.Batch.{End, Standing, table, end, standsAt, part, HoldsFrom, no-more, one-more, Holds}
-use Rattle.batches.proofs.Standing.{inside, never-both}
+use Rattle.refusals.specs.declared.Told.{Told}
+use Rattle.batches.specs.Batch.{End, refused, Standing, table, end, standsAt, part, HoldsFrom, no-more, one-more, Holds}
+use Rattle.batches.proofs.Standing.{inside, never-both, SmallRefusal, refusal-small}
 
 -- ---- one list, one end
 
@@ -55,3 +56,9 @@ held-within b (suc bound) place h = by (standsAt b place) refl (held-within b bo
 
 pub held : (b : List ℕ) → Held b 0
 held b = held-within b (suc (length b)) 0 (omega arith)
+
+-- ---- its refusal is one of a place of it
+
+pub end-small : {b : List ℕ} {place : ℕ} {tables : List (List ℕ)} {x : Told} → HoldsFrom b place tables (refused x) → SmallRefusal x
+end-small {b} (no-more {place = place} is) = refusal-small b place is
+end-small (one-more _ rest) = end-small rest

@@ -2,3 +2,4 @@
 pub mod Batch
 pub mod Answers
 pub mod Packed
+pub mod Reading

@@ -3,6 +3,7 @@ ghost use mathlib.Core.Path.{_≡_};
 ghost use Prim.Native.Nat.{_+_, _≤_};
 ghost use lib.ListN.{length};
 ghost use Rattle.batches.specs.Batch.{most, markIs, headed, refused, end, standing, standsAt};
+ghost use Rattle.batches.specs.Reading.{isTable, bytesOf, placeAfter};
 ghost use Rattle.refusals.specs.Numbers.{told};
 use record::word_of;
 use refusals::Refusal;
@@ -71,4 +72,34 @@ pub fn item_at(batch: &[u8], at: usize) -> Item
     let mark = is_mark(batch[at], batch[at + 1]);
     let len = word_of(batch[at + 2], batch[at + 3]);
     headed(mark, len, at, size)
+}
+
+// Whether a table stands there.
+pub fn is_table(item: Item) -> bool
+    ensures { λ r. ⌜ r ≡ isTable (standing item) ⌝ }
+{
+    match item {
+        Item::Table(_, _) => true,
+        Item::Ended(_) => false,
+    }
+}
+
+// The bytes of the table at a place, a part of the batch from its middle; no byte where the batch has ended.
+pub fn table_at(batch: &[u8], at: usize) -> &[u8]
+    ensures { λ r. ⌜ now r ≡ bytesOf (now (batch .entry)) (standsAt (now (batch .entry)) at) ⌝ }
+{
+    match item_at(batch, at) {
+        Item::Table(from, to) => &batch[from..to],
+        Item::Ended(_) => &batch[0..0],
+    }
+}
+
+// The place after what stands at a place.
+pub fn place_after(batch: &[u8], at: usize) -> usize
+    ensures { λ r. ⌜ r ≡ placeAfter at (standsAt (now (batch .entry)) at) ⌝ }
+{
+    match item_at(batch, at) {
+        Item::Table(_, to) => to,
+        Item::Ended(_) => at,
+    }
 }

@@ -8,6 +8,7 @@ use crate::ask::take_cut;
 use crate::ask::take_fetch;
 use crate::ask::take_judging;
 use crate::input::filled;
+use crate::run::Asked;
 use crate::run::take_batch;
 
 // The next question, if there is one; whether to go on.
@@ -30,7 +31,10 @@ fn take_next() -> bool {
         return take_fetch();
     }
     if k == b'B' {
-        return take_batch();
+        return take_batch(Asked::Answers);
+    }
+    if k == b'M' {
+        return take_batch(Asked::Figures);
     }
     false
 }

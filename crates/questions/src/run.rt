@@ -1,4 +1,4 @@
-// The question about a batch: all its answers in one call.
+// The questions about a batch: all its answers in one call, and its figures.
 use crate::ask::FILL;
 use crate::ask::end_line;
 use crate::ask::say_hex;
@@ -8,10 +8,18 @@ use answers::Answers;
 use answers::Run;
 use answers::write_answers;
 use batches::Ending;
+use lines::Wrote;
 use programs::say;
+use sheet::write_figures;
 
 // The longest batch or output that is handed over.
 const LONGEST: usize = 65535;
+
+// What is asked of a batch.
+pub enum Asked {
+    Answers,
+    Figures,
+}
 
 fn say_ending(ending: Ending) -> bool {
     match ending {
@@ -36,11 +44,25 @@ fn say_run(batch: &[u8], out: &mut [u8]) -> bool {
     }
 }
 
-fn run_filled(batch: &mut [u8], out: &mut [u8]) -> bool {
-    filled(batch) & say_run(batch, out) & say_hex(out) & end_line()
+fn say_figures(batch: &[u8], out: &mut [u8]) -> bool {
+    match write_figures(batch, out) {
+        Wrote::Length(len) => say::number(b"wrote ", len) & say::text(b" bytes") & end_line(),
+        Wrote::Refused(r) => say::refusal(r) & end_line(),
+    }
 }
 
-pub fn take_batch() -> bool {
+fn say_asked(asked: Asked, batch: &[u8], out: &mut [u8]) -> bool {
+    match asked {
+        Asked::Answers => say_run(batch, out),
+        Asked::Figures => say_figures(batch, out),
+    }
+}
+
+fn run_filled(asked: Asked, batch: &mut [u8], out: &mut [u8]) -> bool {
+    filled(batch) & say_asked(asked, batch, out) & say_hex(out) & end_line()
+}
+
+pub fn take_batch(asked: Asked) -> bool {
     let size = next_word();
     let len = next_word();
     if LONGEST < size {
@@ -51,5 +73,5 @@ pub fn take_batch() -> bool {
     }
     let mut batch = [0u8; LONGEST];
     let mut out = [FILL; LONGEST];
-    run_filled(&mut batch[0..len], &mut out[0..size])
+    run_filled(asked, &mut batch[0..len], &mut out[0..size])
 }

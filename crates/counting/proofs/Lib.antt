@@ -1,0 +1,3 @@
+-- What is proved of counting one table.
+pub mod Filling
+pub mod Answering

@@ -1,0 +1,3 @@
+-- The figures of one table.
+pub mod Parts
+pub mod Counting

@@ -1,0 +1,2 @@
+-- Monday's figures over a batch.
+pub mod Monday

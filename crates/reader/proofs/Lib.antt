@@ -1,0 +1,3 @@
+-- What is proved of readers.
+pub mod Calls
+pub mod Unique

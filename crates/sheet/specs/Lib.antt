@@ -1,0 +1,3 @@
+-- Monday's figures as text.
+pub mod Sheet
+pub mod Answer
