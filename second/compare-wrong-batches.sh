@@ -3,8 +3,8 @@
 # by whole files and by questions.
 set -eu
 cd "$(dirname "$0")"
-cargo build --release -j1 --offline --quiet
-cargo build --release -j1 --offline --quiet --features wrong-batch --target-dir target/wrong-batch \
+cargo build --release --offline --quiet
+cargo build --release --offline --quiet --features wrong-batch --target-dir target/wrong-batch \
     --bin second-batch --bin second-questions
 right=$PWD/target/release
 wrong=$PWD/target/wrong-batch/release

@@ -3,14 +3,14 @@
 # must be found to differ.
 set -eu
 cd "$(dirname "$0")"
-cargo build --release -j1 --offline --quiet
+cargo build --release --offline --quiet
 work=$(mktemp -d)
 trap 'rm -r "$work"' EXIT
 target/release/second-generate "${1:-1}" "${2:-2000}" > "$work/questions"
 target/release/second-questions < "$work/questions" > "$work/right"
 target/release/second-compare "$work/questions" "$work/right" "$work/right"
 for wrong in wrong wrong-updates; do
-    cargo build --release -j1 --offline --quiet --features "$wrong" --target-dir "target/$wrong" --bin second-questions
+    cargo build --release --offline --quiet --features "$wrong" --target-dir "target/$wrong" --bin second-questions
     "target/$wrong/release/second-questions" < "$work/questions" > "$work/wrong"
     status=0
     target/release/second-compare "$work/questions" "$work/right" "$work/wrong" > "$work/found" || status=$?

@@ -1,5 +1,6 @@
 //! A batch of tables, by request W1: reading it, the program's text, and the one call.
 
+use crate::report::{report_on, Report};
 use crate::table::{refuse, Refusal};
 use crate::text::{judge, refusal_line};
 
@@ -58,6 +59,11 @@ impl Batch<'_> {
     /// Each table's answer as it gets it alone, one after another; `depth` is that of `Relations::of`.
     pub fn answers(&self, depth: usize) -> String {
         self.tables.iter().map(|table| judge(table, depth)).collect()
+    }
+
+    /// The same answers as values.
+    pub fn reports(&self, depth: usize) -> Vec<Result<Report, Refusal>> {
+        self.tables.iter().map(|table| report_on(table, depth)).collect()
     }
 }
 

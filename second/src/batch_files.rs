@@ -130,7 +130,7 @@ fn around_the_limit(random: &mut Random) -> Vec<Vec<u8>> {
 
 /// Whole tables that take exactly so many bytes with their headers: grown ones at the front and at
 /// the back, and in the middle and last of all one of any length.
-fn filled(random: &mut Random, size: usize) -> Vec<u8> {
+pub fn filled(random: &mut Random, size: usize) -> Vec<u8> {
     let mut grown = |count: usize| -> Vec<u8> {
         let tables: Vec<Vec<u8>> = (0..count).map(|_| any_table(random).concat()).collect();
         pack(&tables)

@@ -1,8 +1,9 @@
 //! Counting what questions and their answers reach, and naming what is missing.
 
 use crate::count_batches::{reached_by_question, required_of_questions};
+use crate::count_figures::{reached_by_figures, required_of_figures};
 use crate::count_updates::{reached_by_updates, required_of_updates};
-use crate::findings::FINDINGS;
+use crate::findings::{FINDINGS, VERDICTS};
 use crate::questions::Question;
 use std::collections::BTreeMap;
 
@@ -29,6 +30,9 @@ impl Counts {
             Question::Judge { table } => reached_by_updates(table, answer),
             Question::Batch { output_size, batch } => {
                 reached_by_question(batch, *output_size as usize, answer)
+            }
+            Question::Figures { output_size, batch } => {
+                reached_by_figures(batch, *output_size as usize, answer)
             }
             _ => Vec::new(),
         };
@@ -126,13 +130,13 @@ pub fn required() -> Vec<String> {
         list.push(format!("finding {first} only"));
         list.extend(FINDINGS[index + 1..].iter().map(|second| format!("pair {first} {second}")));
     }
-    let verdicts = ["consistent", "inconsistent", "undefined"];
-    list.extend(verdicts.map(|verdict| format!("verdict {verdict}")));
+    list.extend(VERDICTS.map(|verdict| format!("verdict {verdict}")));
     list.extend((2..=30).map(|length| format!("A1 length {length}")));
     list.extend((1..=30).map(|length| format!("A4 length {length}")));
     list.extend((1..=64).map(|size| format!("size {size}")));
     list.extend(required_of_updates());
     list.extend(required_of_questions());
+    list.extend(required_of_figures());
     list
 }
 

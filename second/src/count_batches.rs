@@ -48,7 +48,8 @@ fn refusal_in(words: &[&str]) -> Option<Refusal> {
     Some(Refusal { number: number.parse().ok()?, place: place.parse().ok()? })
 }
 
-fn bytes_in(hex: &str) -> Vec<u8> {
+/// The bytes that such digits tell.
+pub fn bytes_in(hex: &str) -> Vec<u8> {
     let digits: Vec<u8> = hex.chars().filter_map(|c| c.to_digit(16)).map(|digit| digit as u8).collect();
     digits.chunks(2).map(|two| two.iter().fold(0, |byte, digit| 16 * byte + digit)).collect()
 }

@@ -24,6 +24,9 @@ pub enum Verdict {
     Undefined,
 }
 
+/// Their names, in the order of `Verdict`.
+pub const VERDICTS: [&str; 3] = ["consistent", "inconsistent", "undefined"];
+
 impl Findings {
     /// "All six are judged always." With A5 of request W2 they are seven.
     pub fn of(records: &[Record], rel: &Relations) -> Findings {
@@ -42,6 +45,19 @@ impl Findings {
                 p < q && records[p].is_write() && records[q].is_write() && rel.race[p][q]
             }),
         }
+    }
+
+    /// Which of the seven hold, in the report's order.
+    pub fn held(&self) -> [bool; FINDINGS.len()] {
+        [
+            self.r.is_some(),
+            self.a1.is_some(),
+            self.a2.is_some(),
+            self.a3.is_some(),
+            self.a4.is_some(),
+            self.a5.is_some(),
+            self.w.is_some(),
+        ]
     }
 
     /// "undefined if W holds, else inconsistent if any other does, else consistent"

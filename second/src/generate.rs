@@ -1,6 +1,7 @@
 //! The generator: questions from a seed, E1 to E11 first.
 
 use crate::ask_batches::ask_batches;
+use crate::ask_figures::ask_figures;
 use crate::asking::{ask_append, ask_cut, ask_fetch, closed_selection, unsettle};
 use crate::builder::Builder;
 use crate::damage::{damage, damage_once, scatter};
@@ -15,7 +16,7 @@ use crate::random::Random;
 use crate::record::{init, store, Bytes};
 use crate::table::NONE;
 
-/// At least `count` tables to judge, and cuts, appends and fetches beside them; then batches.
+/// At least `count` tables to judge, and cuts, appends and fetches beside them; then batches and their figures.
 pub fn generate(seed: u64, count: usize) -> Vec<Question> {
     let mut random = Random::new(seed);
     let mut list: Vec<Question> = examples().into_iter().map(|e| judged(e.bytes)).collect();
@@ -36,6 +37,7 @@ pub fn generate(seed: u64, count: usize) -> Vec<Question> {
         judges += 1;
     }
     list.extend(ask_batches(seed));
+    list.extend(ask_figures(seed));
     list
 }
 

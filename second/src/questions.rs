@@ -2,9 +2,11 @@
 
 use crate::batch::{answer_batch, Answered};
 use crate::edit::{append, cut, fetch, fetch_refusal};
+use crate::figures::write_figures;
+use crate::table::Refusal;
 use crate::text::{hex, judge, refusal_line};
 
-/// What the output of a cut or a batch holds before it.
+/// What the output of a cut, a batch or its figures holds before it.
 pub const OUTPUT_FILL: u8 = 0xa5;
 
 #[derive(Clone, Debug, PartialEq, Eq)]
@@ -14,6 +16,7 @@ pub enum Question {
     Append { in_use: u16, event: [u8; 16], buffer: Vec<u8> },
     Fetch { asked: u16, table: Vec<u8> },
     Batch { output_size: u16, batch: Vec<u8> },
+    Figures { output_size: u16, batch: Vec<u8> },
 }
 
 impl Question {
@@ -24,6 +27,7 @@ impl Question {
             Question::Append { .. } => "append",
             Question::Fetch { .. } => "fetch",
             Question::Batch { .. } => "batch",
+            Question::Figures { .. } => "figures",
         }
     }
 
@@ -34,7 +38,8 @@ impl Question {
             | Question::Cut { table, .. }
             | Question::Append { buffer: table, .. }
             | Question::Fetch { table, .. }
-            | Question::Batch { batch: table, .. } => table,
+            | Question::Batch { batch: table, .. }
+            | Question::Figures { batch: table, .. } => table,
         }
     }
 
@@ -47,9 +52,12 @@ impl Question {
             }
             Question::Append { in_use, event, .. } => format!(" in use {in_use} event {}", hex(event)),
             Question::Fetch { asked, .. } => format!(" record {asked}"),
-            Question::Batch { output_size, .. } => format!(" output {output_size} bytes"),
+            Question::Batch { output_size, .. } | Question::Figures { output_size, .. } => {
+                format!(" output {output_size} bytes")
+            }
         };
-        let held = if matches!(self, Question::Batch { .. }) { "batch" } else { "table" };
+        let of_batch = matches!(self, Question::Batch { .. } | Question::Figures { .. });
+        let held = if of_batch { "batch" } else { "table" };
         format!("{}{fields} {held} {}", self.operation(), hex(self.table()))
     }
 
@@ -76,6 +84,10 @@ impl Question {
                 bytes.push(b'B');
                 bytes.extend(output_size.to_le_bytes());
             }
+            Question::Figures { output_size, .. } => {
+                bytes.push(b'M');
+                bytes.extend(output_size.to_le_bytes());
+            }
         }
         bytes.extend((self.table().len() as u16).to_le_bytes());
         bytes.extend(self.table());
@@ -86,14 +98,9 @@ impl Question {
     pub fn answer(&self, depth: usize) -> String {
         let lines = match self {
             Question::Judge { table } => judge(table, depth),
-            Question::Cut { selection, output_size, table } => {
-                let mut output = vec![OUTPUT_FILL; *output_size as usize];
-                let first = match cut(table, *selection, &mut output, depth) {
-                    Ok(kept) => format!("cut {kept}\n"),
-                    Err(refusal) => refusal_line(refusal),
-                };
-                format!("{first}{}\n", hex(&output))
-            }
+            Question::Cut { selection, output_size, table } => written_to(*output_size, |output| {
+                cut(table, *selection, output, depth).map(|kept| format!("cut {kept}\n"))
+            }),
             Question::Append { in_use, event, buffer } => {
                 let mut buffer = buffer.clone();
                 let first = match append(&mut buffer, *in_use as usize, event) {
@@ -108,13 +115,21 @@ impl Question {
                 format!("{part}\n{}", last.map_or("given\n".to_string(), refusal_line))
             }
             Question::Batch { output_size, batch } => {
-                let mut output = vec![OUTPUT_FILL; *output_size as usize];
-                let first = answer_batch(batch, &mut output, depth).map_or_else(refusal_line, answered_line);
-                format!("{first}{}\n", hex(&output))
+                written_to(*output_size, |output| answer_batch(batch, output, depth).map(answered_line))
             }
+            Question::Figures { output_size, batch } => written_to(*output_size, |output| {
+                write_figures(batch, output, depth).map(|bytes| format!("wrote {bytes} bytes\n"))
+            }),
         };
         lines + "\n"
     }
+}
+
+/// The line that an operation returns, or its refusal's, and the whole output after it.
+fn written_to(size: u16, operation: impl FnOnce(&mut [u8]) -> Result<String, Refusal>) -> String {
+    let mut output = vec![OUTPUT_FILL; size as usize];
+    let first = operation(&mut output).unwrap_or_else(refusal_line);
+    format!("{first}{}\n", hex(&output))
 }
 
 /// What the one call on a batch returns.
@@ -165,6 +180,7 @@ pub fn all_questions(bytes: &[u8]) -> Result<Vec<Question>, String> {
             },
             b'F' => Question::Fetch { asked: rest.take_u16()?, table: rest.take_table()? },
             b'B' => Question::Batch { output_size: rest.take_u16()?, batch: rest.take_table()? },
+            b'M' => Question::Figures { output_size: rest.take_u16()?, batch: rest.take_table()? },
             other => return Err(format!("question {} has operation {other}", list.len())),
         });
     }

@@ -1,18 +1,12 @@
 //! The lines that are written: a report, a refusal, bytes in hex.
 
-use crate::findings::{Findings, Verdict};
-use crate::relations::Relations;
-use crate::table::{read_table, Refusal, RECORD_BYTES};
+use crate::findings::VERDICTS;
+use crate::report::{report_on, Report};
+use crate::table::Refusal;
 
 /// What the program writes for a table; `depth` is that of `Relations::of`.
 pub fn judge(bytes: &[u8], depth: usize) -> String {
-    match read_table(bytes) {
-        Err(refusal) => refusal_line(refusal),
-        Ok(records) => {
-            let relations = Relations::of(&records, depth);
-            report(bytes.len() / RECORD_BYTES, &Findings::of(&records, &relations))
-        }
-    }
+    report_on(bytes, depth).map_or_else(refusal_line, report_lines)
 }
 
 /// "A refused table gives one line, as `refused 6 at 3`."
@@ -20,7 +14,7 @@ pub fn refusal_line(refusal: Refusal) -> String {
     format!("refused {} at {}\n", refusal.number, refusal.place)
 }
 
-fn report(events: usize, findings: &Findings) -> String {
+fn report_lines(Report { events, findings }: Report) -> String {
     let pair = |found: Option<(usize, usize)>| found.map(|(p, q)| vec![p, q]);
     let mut text = format!("events {events}\n");
     text += &finding_line("R", findings.r.map(|read| vec![read]));
@@ -30,12 +24,7 @@ fn report(events: usize, findings: &Findings) -> String {
     text += &finding_line("A4", findings.a4.clone());
     text += &finding_line("A5", pair(findings.a5));
     text += &finding_line("W", pair(findings.w));
-    let verdict = match findings.verdict() {
-        Verdict::Consistent => "consistent",
-        Verdict::Inconsistent => "inconsistent",
-        Verdict::Undefined => "undefined",
-    };
-    text + &format!("verdict {verdict}\n")
+    text + &format!("verdict {}\n", VERDICTS[findings.verdict() as usize])
 }
 
 fn finding_line(name: &str, numbers: Option<Vec<usize>>) -> String {
