@@ -35,8 +35,8 @@ pub fn number_line(out: &mut [u8], at: usize, name: &[u8], number: usize) -> usi
     ensures { λ r. ⌜ Written (now (out .entry)) at (line (now (name .entry)) (spaced number)) (now (out .exit)) r ⌝ }
 {
     let word = put(out, at, name);
-    let rest = put_spaced(out, word, number);
-    put(out, rest, b"\n")
+    let end = put_spaced(out, word, number);
+    put(out, end, b"\n")
 }
 
 fn verdict_line(out: &mut [u8], at: usize, verdict: Verdict) -> usize

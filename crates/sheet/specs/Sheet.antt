@@ -1,4 +1,4 @@
--- Monday's figures as text: "one line each, in this order, decimal numbers".
+-- Monday's figures as text, in the words that were decided (docs/DECISIONS.md, 43).
 use mathlib.Core.Bool.{cond}
 use mathlib.Core.List.{List, [], _∷_, _++_}
 use Prim.Native.Nat.{ℕ, _-_}

@@ -14,7 +14,7 @@ pub data Answer : Type 0 where
   refused : Told → Answer
   reported : ℕ → Report → Answer
 
--- the answer of the table b: "for each table what it would get alone"
+-- the answer of the table b: "its answer, refusals included, is the one it gets alone"
 pub data AnswerOf (b : List ℕ) : Answer → Type 0 where
   by-test : {r : Refusal} → TestAnswer b (tested.Refused r) → AnswerOf b (refused (told r))
   by-judging : {n : ℕ} {x : Report} → TestAnswer b (tested.Sound n) → Reports (eventsOf b) x → AnswerOf b (reported n x)

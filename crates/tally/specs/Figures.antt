@@ -26,7 +26,7 @@ howMany such (x ∷ l) = oneIf (such x) + howMany such l
 
 -- ---- what is counted
 
--- the numbers of the refusals that a table can get: "refused 1" to "refused 8"
+-- the numbers of the refusals that a table can get: 1 for its length, 2 to 8 for a record
 abbrev pub numbers : List ℕ
 numbers = 1 ∷ 2 ∷ 3 ∷ 4 ∷ 5 ∷ 6 ∷ 7 ∷ 8 ∷ []
 

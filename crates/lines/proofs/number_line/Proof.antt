@@ -1,5 +1,6 @@
 -- `number_line` meets its contract: the name, the number, the line end.
 use mathlib.Core.List.{[], _∷_}
+use native.Mathlib.Omega.{arith}
 use borrow.Author.Needs.{needs}
 use Rattle.text.specs.Text.{spaced}
 use Rattle.lines.proofs.Pieces.{first-room, second-room, third-room, all-three}
@@ -17,7 +18,7 @@ put-spaced-requires c κs =
     let word = c .before .before .before in
     let entry = word .before .before .before .before in
     let a = entry .args in
-    second-room (a .out .now) (a .at) (a .name .now) (spaced (a .number)) (10 ∷ []) (entry .pre) (word .put .ensures)
+    omega (arith, word .put .ensures .next, second-room (a .out .now) (a .at) (a .name .now) (spaced (a .number)) (10 ∷ []) (entry .pre) (word .put .ensures))
 
 put-requires-2 : tie.Need-put-requires-2
 put-requires-2 c κs =
