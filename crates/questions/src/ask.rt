@@ -9,6 +9,9 @@ use edit::appending::append;
 use edit::cutting::CutDown;
 use edit::cutting::cut;
 use events::Record;
+use fetch::FetchTest;
+use fetch::fetch;
+use fetch::refusal_of_fetch;
 use lines::TEXT;
 use lines::Wrote;
 use lines::write_answer;
@@ -16,9 +19,6 @@ use programs::say;
 use programs::say::Form;
 use record::places::SIZE;
 use record::record_from;
-use table::FetchTest;
-use table::fetch;
-use table::refusal_of_fetch;
 
 // The longest table or buffer that is handed over: wrong lengths are tried too.
 const MOST: usize = 4096;

@@ -8,5 +8,4 @@ pub mod Front
 pub mod WellFormed
 pub mod Written
 pub mod NewRecord
-pub mod Fetching
 pub mod Edges

@@ -1,4 +1,4 @@
-// A table of records as bytes: its test (refusals 1 to 8, each with its place), its records, fetched and read.
+// A table of records as bytes: its test (refusals 1 to 8, each with its place), and its records, read.
 mod accesses;
 mod faults;
 mod stored;
@@ -11,7 +11,6 @@ ghost use Rattle.record.specs.declared.Decoded.the-variants.{Good};
 ghost use Rattle.record.specs.Form.{recordSize, encode};
 ghost use Rattle.table.specs.Computed.{checked};
 ghost use Rattle.table.specs.Events.{eventsOf};
-ghost use Rattle.table.specs.Fetched.{fetched, FetchAnswer};
 ghost use Rattle.table.specs.New.{PassingUse};
 ghost use Rattle.table.specs.Part.{AllStand};
 ghost use Rattle.table.specs.Test.{lengthOk, CheckAnswer, RecordsAnswer, TestAnswer};
@@ -21,6 +20,7 @@ use record::Decoded;
 use record::places::SIZE;
 use refusals::Fault;
 use refusals::Refusal;
+pub use stored::part_at;
 pub use stored::record_at;
 
 // What the test of one record says.
@@ -32,12 +32,6 @@ pub enum Checked {
 // What the test of a table says: its count of records, or the refusal.
 pub enum Tested {
     Sound(usize),
-    Refused(Refusal),
-}
-
-// Whether a fetch is refused.
-pub enum FetchTest {
-    Given,
     Refused(Refusal),
 }
 
@@ -110,29 +104,5 @@ pub fn test(table: &[u8]) -> Tested
         test_records(table, len / SIZE)
     } else {
         Tested::Refused(Refusal::Length)
-    }
-}
-
-// Whether a fetch of record n is refused, by 1 or by 13.
-pub fn refusal_of_fetch(table: &[u8], n: usize) -> FetchTest
-    ensures { λ r. ⌜ FetchAnswer (now (table .entry)) n r ⌝ }
-{
-    let len = table.len();
-    if length_ok(len) {
-        if n < len / SIZE {
-            return FetchTest::Given;
-        }
-        return FetchTest::Refused(Refusal::Past(n));
-    }
-    FetchTest::Refused(Refusal::Length)
-}
-
-// Record n's own sixteen bytes, or an empty part where the fetch is refused.
-pub fn fetch(table: &[u8], n: usize) -> &[u8]
-    ensures { λ r. ⌜ now r ≡ fetched (now (table .entry)) n ⌝ }
-{
-    match refusal_of_fetch(table, n) {
-        FetchTest::Given => stored::part_at(table, n),
-        FetchTest::Refused(_) => &table[..0],
     }
 }

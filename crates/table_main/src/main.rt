@@ -2,6 +2,9 @@
 ghost use Prim.Native.Nat.{_<_};
 ghost use Rattle.record.specs.Form.{recordSize};
 use events::Order;
+use fetch::FetchTest;
+use fetch::fetch;
+use fetch::refusal_of_fetch;
 use programs::examples;
 use programs::large;
 use programs::large::Large;
@@ -18,7 +21,6 @@ use record::places::SIZE;
 use record::places::SOURCE;
 use record::places::THREAD;
 use refusals::Refusal;
-use table::FetchTest;
 use table::Tested;
 
 fn say_refusal(r: Refusal) -> bool {
@@ -47,8 +49,8 @@ fn say_fetch_test(tested: FetchTest) -> bool {
 fn say_fetch(table: &[u8], n: usize) -> bool {
     say::number(b"fetch ", n)
         & say::text(b":")
-        & say::bytes(Form::Hex, b" ", table::fetch(table, n))
-        & say_fetch_test(table::refusal_of_fetch(table, n))
+        & say::bytes(Form::Hex, b" ", fetch(table, n))
+        & say_fetch_test(refusal_of_fetch(table, n))
         & say::text(b"\n")
 }
 

@@ -8,10 +8,10 @@ use lib.ListN.{length}
 use Rattle.refusals.specs.declared.Refusal.{Refusal}
 use Rattle.refusals.specs.Numbers.{at, told}
 use Rattle.record.specs.Form.{pick, part}
-use Rattle.table.specs.declared.FetchTest.{FetchTest}
-use Rattle.table.specs.declared.FetchTest.the-variants.{Given, Refused}
+use Rattle.fetch.specs.declared.FetchTest.{FetchTest}
+use Rattle.fetch.specs.declared.FetchTest.the-variants.{Given, Refused}
 use Rattle.table.specs.Events.{countOf}
 use Rattle.table.specs.Test.{lengthOk}
 
 -- "hands back the record's own sixteen bytes in the caller's table, or an empty part"
 unfoldable pub fetched : List ℕ → ℕ → List ℕ

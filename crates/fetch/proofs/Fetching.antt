@@ -10,11 +10,11 @@ use borrow.Author.Tests.{lt-ltb, le-ltb}
 use Rattle.refusals.specs.declared.Refusal.{Refusal}
 use Rattle.refusals.proofs.Known.{same-refusal}
 use Rattle.record.specs.Form.{pick, part}
-use Rattle.table.specs.declared.FetchTest.{FetchTest}
-use Rattle.table.specs.declared.FetchTest.the-variants.{Given, Refused}
+use Rattle.fetch.specs.declared.FetchTest.{FetchTest}
+use Rattle.fetch.specs.declared.FetchTest.the-variants.{Given, Refused}
 use Rattle.table.specs.Events.{countOf}
 use Rattle.table.specs.Test.{lengthOk}
-use Rattle.table.specs.Fetched.{fetched, FetchAnswer, given, refused-1, refused-13}
+use Rattle.fetch.specs.Fetched.{fetched, FetchAnswer, given, refused-1, refused-13}
 
 both : {A : Type 0} (a b : Bool) (x y : A) → T a → b ≡ true → pick (a && b) x y ≡ x
 both true b x y h e = rw e

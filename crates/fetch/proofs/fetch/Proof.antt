@@ -1,10 +1,10 @@
--- `table::fetch` meets its contract: by what the second question says.
+-- `fetch` meets its contract: by what the second question says.
 use mathlib.Core.Path.{_∙_}
 use native.Mathlib.Omega.{arith}
 use borrow.Author.Needs.{needs}
-use Rattle.table.proofs.Fetching.{fetched-given, fetched-refused, given-below}
-use Rattle.table.proofs.fetch.Statement.{statement}
-use Rattle.table.proofs.fetch.Tie as tie
+use Rattle.fetch.proofs.Fetching.{fetched-given, fetched-refused, given-below}
+use Rattle.fetch.proofs.fetch.Statement.{statement}
+use Rattle.fetch.proofs.fetch.Tie as tie
 
 part-at-requires : tie.Need-part-at-requires
 part-at-requires c κs =

@@ -1,13 +1,13 @@
--- `table::refusal_of_fetch` meets its contract: each way out has the tests that led there.
+-- `refusal_of_fetch` meets its contract: each way out has the tests that led there.
 use mathlib.Core.Path.{refl, sym, _∙_}
 use lib.ListN.{length}
 use borrow.Author.Needs.{needs}
 use denote.Ref.{now}
 use Rattle.laws.proofs.Says.{said, denied, says-T}
 use Rattle.table.specs.Test.{lengthOk}
-use Rattle.table.specs.Fetched.{given, refused-1, refused-13}
-use Rattle.table.proofs.refusal_of_fetch.Statement.{statement}
-use Rattle.table.proofs.refusal_of_fetch.Tie as tie
+use Rattle.fetch.specs.Fetched.{given, refused-1, refused-13}
+use Rattle.fetch.proofs.refusal_of_fetch.Statement.{statement}
+use Rattle.fetch.proofs.refusal_of_fetch.Tie as tie
 
 returns : tie.Need-returns
 returns c =

@@ -1,0 +1,2 @@
+-- A record fetched: its bytes, and whether the fetch is refused.
+pub mod Fetched
