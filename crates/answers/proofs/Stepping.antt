@@ -44,4 +44,4 @@ module _ (b : List ℕ) (place : ℕ) {before₁ after₁ before₂ after₂ : L
       go : StepAnswer b place before₁ after₁ before₂ after₂ (step.Ended e) → length (refusedText (told r)) ≤ longest
       go (ended stands _ _) =
           let small = refusal-small b place {x = told r} (rw why at stands) in
-          omega (arith, refused-short (told r) (omega (arith, small .number)) (omega (arith, small .place)))
+          omega (arith, refused-short (told r) (omega (arith, small .number)) (omega (arith, small .place)) (small .byte))

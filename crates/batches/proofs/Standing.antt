@@ -7,6 +7,7 @@ use native.Mathlib.Omega.{arith}
 use native.Mathlib.Decide.{decLt, decLe}
 use lib.ListN.{length}
 use borrow.Author.Tests.{le-leb, lt-leb, lt-ltb, le-ltb}
+use Rattle.refusals.specs.declared.Byte.the-variants.{Unnamed}
 use Rattle.refusals.specs.declared.Told.{Told}
 use Rattle.refusals.specs.Numbers.{at}
 use Rattle.batches.specs.Batch.{most, markAt, lengthAt, End, cleanly, refused, Standing, table, end, standsAt}
@@ -109,10 +110,11 @@ clean-end b place e = go (stands-so b place e) refl
     go (short-table _ _ _ _) is = clean is
     go (a-table _ _ _ _) is = never-both refl is
 
--- a refusal has a number that document 02 names, and a place of the batch
+-- a refusal has a number that document 02 names, a place of the batch, and no byte
 pub record SmallRefusal (x : Told) : Type 0 where
   pub number : x .number ≤ 15
   pub place : x .place ≤ most
+  pub byte : x .byte ≡ Unnamed
 
 pub refusal-small : (b : List ℕ) (place : ℕ) {x : Told} → standsAt b place ≡ end (refused x) → SmallRefusal x
 refusal-small b place {x} e = go (stands-so b place e) refl
@@ -121,9 +123,9 @@ refusal-small b place {x} e = go (stands-so b place e) refl
     told {t} small is = let same : t ≡ x = cc in subst SmallRefusal same small
 
     go : {s : Standing} → Stands b place s → s ≡ end (refused x) → SmallRefusal x
-    go (too-long _) is = told (record { number = omega arith; place = omega arith }) is
+    go (too-long _) is = told (record { number = omega arith; place = omega arith; byte = refl }) is
     go (no-byte _ _) is = absurd (let z : _≡_ {A = ℕ} 0 1 = cc in omega arith)
-    go (short-header w h _) is = told (record { number = omega arith; place = omega arith }) is
-    go (wrong-mark w h _) is = told (record { number = omega arith; place = omega arith }) is
-    go (short-table w h _ _) is = told (record { number = omega arith; place = omega arith }) is
+    go (short-header w h _) is = told (record { number = omega arith; place = omega arith; byte = refl }) is
+    go (wrong-mark w h _) is = told (record { number = omega arith; place = omega arith; byte = refl }) is
+    go (short-table w h _ _) is = told (record { number = omega arith; place = omega arith; byte = refl }) is
     go (a-table _ _ _ _) is = never-both refl is

@@ -83,7 +83,7 @@ pub record Holds (b : List ℕ) (tables : List (List ℕ)) (e : End) : Type 0 wh
 -- "a refusal of the second has its place moved on by the first's length"
 abbrev pub movedOn : ℕ → End → End
 movedOn n cleanly = cleanly
-movedOn n (refused t) = refused (at (t .number) (n + t .place))
+movedOn n (refused t) = refused (record { number = t .number; place = n + t .place; byte = t .byte })
 
 -- ---- what the code's values say
 

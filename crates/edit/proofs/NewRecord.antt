@@ -38,16 +38,18 @@ module _ {b : List ℕ} {used : ℕ} where
   count-ready (good ready _) e = ready
 
 -- "by 3 to 8": the bytes that are read have the mark, so 2 is never given
-marked-first : (row rest range : Bool) (r : Record) → ¬ (decidedBy true row rest range r ≡ Bad Mark)
+marked-first : (k w s t l : Bool) (i : ℕ) (r : Record) → ¬ (decidedBy true k w s t l i r ≡ Bad Mark)
 unfolding decidedBy
-marked-first true true true r e = let z : _≡_ {A = ℕ} 0 1 = cc in omega arith
-marked-first true true false r e = let z : _≡_ {A = ℕ} 0 1 = cc in omega arith
-marked-first true false range r e = let z : _≡_ {A = ℕ} 0 1 = cc in omega arith
-marked-first false rest range r e = let z : _≡_ {A = ℕ} 0 1 = cc in omega arith
+marked-first true true true true true i r e = let z : _≡_ {A = ℕ} 0 1 = cc in omega arith
+marked-first true true true true false i r e = let z : _≡_ {A = ℕ} 0 1 = cc in omega arith
+marked-first true true true false l i r e = let z : _≡_ {A = ℕ} 0 1 = cc in omega arith
+marked-first true true false t l i r e = let z : _≡_ {A = ℕ} 0 1 = cc in omega arith
+marked-first true false s t l i r e = let z : _≡_ {A = ℕ} 0 1 = cc in omega arith
+marked-first false w s t l i r e = let z : _≡_ {A = ℕ} 0 1 = cc in omega arith
 
 encoded-marked : (r : Record) → ¬ (decode (encode r) ≡ Bad Mark)
 unfolding decode encode
-encoded-marked r = marked-first _ _ _ _
+encoded-marked r = marked-first _ _ _ _ _ _ _
 
 module _ (b : List ℕ) (used : ℕ) (new : Record) (held : 16 * used ≤ length b) where
   not-2 : {f : Fault} → FaultAt (extended b used new) used f → ¬ (f ≡ Mark)

@@ -6,7 +6,7 @@ use native.Mathlib.Omega.{arith}
 use Rattle.events.specs.declared.Record.{Record}
 use Rattle.refusals.specs.declared.Fault.{Fault}
 use Rattle.refusals.specs.declared.Refusal.{Refusal}
-use Rattle.refusals.specs.Numbers.{at, faultNumber}
+use Rattle.refusals.specs.Numbers.{ofRecord}
 use Rattle.refusals.proofs.Known.{same-refusal}
 use Rattle.table.specs.declared.Tested.the-variants as tested
 use Rattle.table.specs.Test.{RecordsAnswer}
@@ -54,7 +54,7 @@ module _ {b : List ℕ} {used : ℕ} {new : Record} where
   decides-one (bad-new v _ _) (bad-record _ x) = sound-or-refused (v .sound-use .sound) x
   decides-one (bad-new v _ _) (full _ is _) = absurd (v .not-full is)
   decides-one (bad-new v _ _) (no-room _ _ short _) = absurd (short (v .room))
-  decides-one (bad-new _ x e) (bad-new _ y h) = ap Refused (same-refusal e (h ∙ ap (λ (f : Fault). at (faultNumber f) used) (fault-one y x)))
+  decides-one (bad-new _ x e) (bad-new _ y h) = ap Refused (same-refusal e (h ∙ ap (λ (f : Fault). ofRecord f used) (fault-one y x)))
   decides-one (bad-new _ x _) (good _ passes) = no-fault passes x
   decides-one (good v _) (not-in-use u _) = absurd (u (v .sound-use .in-use))
   decides-one (good v _) (bad-record _ x) = sound-or-refused (v .sound-use .sound) x

@@ -29,7 +29,7 @@ earlier {b} {n} one =
     let p = part b n in
     record {
       long = part-length b n (room-of one);
-      parent = λ h. parent-earlier formed (parentByte p) n (ap (λ (r : Record). r .parent) (sym (read .is)) ∙ link-to (parentByte p) h);
+      parent = λ h. parent-earlier formed (parentByte p) n (ap (λ (r : Record). r .parent) (sym (read .same)) ∙ link-to (parentByte p) h);
       source = λ h.
-          source-is-earlier-write formed (has-source formed (sourceByte p) n (ap (λ (r : Record). r .source) (sym (read .is)) ∙ link-to (sourceByte p) h)) .earlier;
+          source-is-earlier-write formed (has-source formed (sourceByte p) n (ap (λ (r : Record). r .source) (sym (read .same)) ∙ link-to (sourceByte p) h)) .earlier;
     }

@@ -38,13 +38,16 @@ not-good : {A : Type 0} {f : Fault} {r : Record} → Bad f ≡ Good r → A
 not-good e = absurd (let z : _≡_ {A = ℕ} 0 1 = cc in omega arith)
 
 -- the tests decide alike whatever record they are asked of
-decided-other : (m w s g : Bool) (x y r : Record) → decidedBy m w s g x ≡ Good r → decidedBy m w s g y ≡ Good y
+decided-other :
+    (m k w s t l : Bool) (i j : ℕ) (x y r : Record) → decidedBy m k w s t l i x ≡ Good r → decidedBy m k w s t l j y ≡ Good y
 unfolding decidedBy
-decided-other true true true true x y r e = refl
-decided-other true true true false x y r e = not-good e
-decided-other true true false g x y r e = not-good e
-decided-other true false s g x y r e = not-good e
-decided-other false w s g x y r e = not-good e
+decided-other true true true true true true i j x y r e = refl
+decided-other true true true true true false i j x y r e = not-good e
+decided-other true true true true false l i j x y r e = not-good e
+decided-other true true true false t l i j x y r e = not-good e
+decided-other true true false s t l i j x y r e = not-good e
+decided-other true false w s t l i j x y r e = not-good e
+decided-other false k w s t l i j x y r e = not-good e
 
 module _ (f : ℕ → ℕ) (p : List ℕ) (r : Record)
     (parent : ¬ (parentByte p ≡ 255) → ¬ (f (parentByte p) ≡ 255))
@@ -57,7 +60,7 @@ module _ (f : ℕ → ℕ) (p : List ℕ) (r : Record)
 
     decode-firsts : decode (firsts p 0 16) ≡ Good r → decode (renumberedBytes f (firsts p 0 16)) ≡ Good (renumbered f (recordFrom p))
     unfolding decode
-    decode-firsts e = rw (none-renumbered f (sourceByte p) source) (decided-other _ _ _ _ (recordFrom p) (recordFrom (renumberedBytes f (firsts p 0 16))) r e ∙ ap Good same-record)
+    decode-firsts e = rw (none-renumbered f (sourceByte p) source) (decided-other _ _ _ _ _ _ _ _ (recordFrom p) (recordFrom (renumberedBytes f (firsts p 0 16))) r e ∙ ap Good same-record)
 
     pub decode-renumbered : length p ≡ 16 → decode p ≡ Good r → decode (renumberedBytes f p) ≡ Good (renumbered f r)
     decode-renumbered long e =

@@ -6,7 +6,7 @@ use lib.ListN.{length, take, drop}
 use Rattle.events.specs.declared.Record.{Record}
 use Rattle.refusals.specs.declared.Fault.{Fault}
 use Rattle.refusals.specs.declared.Refusal.{Refusal}
-use Rattle.refusals.specs.Numbers.{at, faultNumber, told}
+use Rattle.refusals.specs.Numbers.{at, ofRecord, told}
 use Rattle.limits.specs.Limit.{limit}
 use Rattle.record.specs.Form.{recordSize, encode, overwritten}
 use Rattle.table.specs.declared.Tested.the-variants as tested
@@ -48,7 +48,7 @@ module _ (b : List ℕ) (used : ℕ) where
       bad-record : {r : Refusal} → InUse → RecordsAnswer front (tested.Refused r) → Decides (Refused r)
       full : {r : Refusal} → SoundUse → used ≡ limit → told r ≡ at 12 0 → Decides (Refused r)
       no-room : {r : Refusal} → SoundUse → ¬ (used ≡ limit) → ¬ (recordSize * used + recordSize ≤ length b) → told r ≡ at 11 0 → Decides (Refused r)
-      bad-new : {r : Refusal} {f : Fault} → Ready → FaultAt extended used f → told r ≡ at (faultNumber f) used → Decides (Refused r)
+      bad-new : {r : Refusal} {f : Fault} → Ready → FaultAt extended used f → told r ≡ ofRecord f used → Decides (Refused r)
       -- "an append returns the new count"
       good : Ready → Passes extended used → Decides (Count (used + 1))
 

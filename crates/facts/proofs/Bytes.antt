@@ -14,34 +14,20 @@ use Rattle.events.specs.declared.Value.{Value}
 use Rattle.events.specs.declared.Event.{Event}
 use Rattle.events.specs.declared.Record.{Record}
 use Rattle.events.specs.Words.{isRead, isWrite, isUpdate, isNA, isSC, orderOf, locationOf, codeOf, sameLocation, oneLocation}
-use Rattle.record.specs.declared.Decoded.{Decoded}
-use Rattle.record.specs.declared.Decoded.the-variants.{Good}
 use Rattle.record.specs.Form.{pick, byteAt, kindByte, orderByte, locationByte, readsKind, writesKind, orderFrom, eventFrom, readFrom, writtenFrom, recordFrom, part}
-use Rattle.record.specs.Refused.{InRow, ReadAs, good, bad-2, bad-3, bad-4, bad-5}
-use Rattle.record.proofs.Exact.{read-as}
-use Rattle.record.proofs.BytesBack.{four, kind-below, order-of-row}
+use Rattle.record.proofs.BytesBack.{kind-below, order-of-row}
+use Rattle.record.proofs.Cases.{four}
+use Rattle.record.proofs.RoundTrip.{Passed, passed}
 use Rattle.table.specs.Events.{eventsOf}
 use Rattle.facts.specs.Sound.{One}
 
 pub byte-of-part : (b : List ℕ) (n i : ℕ) → i < 16 → getD b (16 * n + i) 0 ≡ byteAt (part b n) i
 byte-of-part b n i h = sym (rw (getD-take, getD-drop))
 
--- bytes that are read as a record: it is the one that they hold, and its order is in its kind's row
-pub record Read (p : List ℕ) (r : Record) : Type 0 where
-  pub is : recordFrom p ≡ r
-  pub row : InRow p
-
-read-good : {p : List ℕ} {d : Decoded} {r : Record} → ReadAs p d → d ≡ Good r → Read p r
-read-good (good m w s g) e = record { is = cc; row = w }
-read-good (bad-2 m) e = absurd (let z : _≡_ {A = ℕ} 0 1 = cc in omega arith)
-read-good (bad-3 m w) e = absurd (let z : _≡_ {A = ℕ} 0 1 = cc in omega arith)
-read-good (bad-4 m w s) e = absurd (let z : _≡_ {A = ℕ} 0 1 = cc in omega arith)
-read-good (bad-5 m w s g) e = absurd (let z : _≡_ {A = ℕ} 0 1 = cc in omega arith)
-
--- so are the bytes of a record of a sound table, and there is room for them
+-- the bytes of a record of a sound table were read as that record, and there is room for them
 module _ {b : List ℕ} {n : ℕ} (one : One b n) where
-  pub read-of : Read (part b n) (eventsOf b .at n)
-  read-of = read-good (read-as (part b n)) (one .sound .decodes n (one .inside))
+  pub read-of : Passed (part b n) (eventsOf b .at n)
+  read-of = passed (part b n) (eventsOf b .at n) (one .sound .decodes n (one .inside))
 
   pub room-of : 16 * n + 16 ≤ length b
   room-of = omega (arith, one .sound .size, one .inside)
@@ -100,7 +86,7 @@ module _ {b : List ℕ} {n : ℕ} (one : One b n) where
   bytes = part b n
 
   pub field-told : {A : Type 0} (field : Record → A) → field (recordFrom bytes) ≡ field (eventsOf b .at n)
-  field-told field = ap field (read-of one .is)
+  field-told field = ap field (read-of one .same)
 
   -- a word on its event, by its kind
   kind-told :

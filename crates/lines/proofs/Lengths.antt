@@ -20,10 +20,15 @@ use Rattle.model.specs.Table.{Table}
 use Rattle.model.specs.WellFormed.{WellFormed}
 use Rattle.model.specs.Findings.{Report, Reports}
 use Rattle.model.proofs.Shown.{witness-fits}
+use Rattle.refusals.specs.declared.Fault.{Fault}
+use Rattle.refusals.specs.declared.Fault.the-variants.{Mark, Kind, Order, Rest, Thread, Location, Parent, Source, Twin}
+use Rattle.refusals.specs.declared.Byte.{Byte}
+use Rattle.refusals.specs.declared.Byte.the-variants.{Unnamed}
 use Rattle.refusals.specs.declared.Told.{Told}
+use Rattle.refusals.specs.Numbers.{faultNumber, faultByte, ofRecord}
 use Rattle.text.specs.Text.{decimal, each, spaced, spacedEach}
 use Rattle.text.proofs.Laws.{decimal-one, decimal-longer}
-use Rattle.lines.specs.Lines.{line, witnessText, findingLine, linesOf, verdictText, reportText, placeText, refusedText, eventsWord, verdictWord, refusedWord, atWord}
+use Rattle.lines.specs.Lines.{line, witnessText, findingLine, linesOf, verdictText, reportText, byteText, whereText, placeText, refusedText, eventsWord, verdictWord, refusedWord, atWord, byteWord}
 
 -- one digit more for each ten times
 digits-within : (k bound n : ℕ) → n < 10 * bound → ((m : ℕ) → m < bound → length (decimal m) ≤ k) → length (decimal n) ≤ suc k
@@ -112,14 +117,40 @@ module _ {t : Table} (ok : WellFormed t) (few : t .count ≤ limit) {x : Report}
       verdict-short Consistent = omega arith
 
 -- the place is a record's number, or a byte of a batch
-pub refused-short : (told : Told) → told .number < 1000 → told .place < 100000 → length (refusedText told) ≤ 21
+refused-length : (told : Told) → told .number < 1000 → told .place < 100000 → length (refusedText told) ≤ 21 + length (byteText (told .byte))
 unfolding refusedText
-refused-short told h k =
+refused-length told h k =
     omega (
       arith,
       line-length refusedWord (placeText told),
-      length-append (spaced (told .number)) (atWord ++ spaced (told .place)),
-      length-append atWord (spaced (told .place)),
+      length-append (spaced (told .number)) (atWord ++ whereText told),
+      length-append atWord (whereText told),
+      length-append (spaced (told .place)) (byteText (told .byte)),
       decimal-3 (told .number) h,
       decimal-5 (told .place) k,
     )
+
+-- where no byte is named
+pub refused-short : (told : Told) → told .number < 1000 → told .place < 100000 → told .byte ≡ Unnamed → length (refusedText told) ≤ 21
+refused-short told h k none-named = omega (arith, refused-length told h k, ap (λ (x : Byte). length (byteText x)) none-named)
+
+-- and where one is
+pub record-short : (f : Fault) (n : ℕ) → n < 1000 → faultByte f < 1000 → length (refusedText (ofRecord f n)) ≤ 30
+record-short f n h k =
+    omega (
+      arith,
+      refused-length (ofRecord f n) (fault-small f) (omega arith),
+      length-append byteWord (spaced (faultByte f)),
+      decimal-3 (faultByte f) k,
+    )
+  where
+    fault-small : (f : Fault) → faultNumber f < 1000
+    fault-small Mark = omega arith
+    fault-small Kind = omega arith
+    fault-small Order = omega arith
+    fault-small (Rest i) = omega arith
+    fault-small Thread = omega arith
+    fault-small Location = omega arith
+    fault-small Parent = omega arith
+    fault-small Source = omega arith
+    fault-small Twin = omega arith

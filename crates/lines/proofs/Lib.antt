@@ -7,3 +7,4 @@ pub mod Answering
 pub mod Telling
 pub mod Unique
 pub mod Written
+pub mod Worked

@@ -7,6 +7,7 @@ use findings::Findings;
 use findings::Verdict;
 use judge::Judged;
 use limits::LIMIT;
+use refusals::Byte;
 use refusals::Refusal;
 use refusals::Told;
 use text::put;
@@ -14,7 +15,7 @@ use text::put_spaced;
 ghost use Prim.Native.Nat.{_≤_};
 ghost use lib.ListN.{length};
 ghost use Rattle.text.specs.Text.{Written, spaced};
-ghost use Rattle.lines.specs.Lines.{line, verdictText, verdictWord, reportText, placeText, refusedText};
+ghost use Rattle.lines.specs.Lines.{line, verdictText, verdictWord, reportText, byteText, whereText, placeText, refusedText};
 ghost use Rattle.lines.specs.Room.{Room, longest};
 ghost use Rattle.lines.specs.Witnesses.{witnesses, AllWhole};
 ghost use Rattle.lines.specs.Judged.{judgedText, JudgedWhole};
@@ -67,6 +68,30 @@ fn put_report<'a>(
     verdict_line(out, last, verdict)
 }
 
+// A record's byte, where one is named.
+fn put_named(out: &mut [u8], at: usize, byte: Byte) -> usize
+    requires { ⌜ Room (now out) at (byteText byte) ⌝ }
+    ensures { λ r. ⌜ Written (now (out .entry)) at (byteText byte) (now (out .exit)) r ⌝ }
+{
+    match byte {
+        Byte::Unnamed => at,
+        Byte::Named(i) => {
+            let word = put(out, at, b" byte");
+            put_spaced(out, word, i)
+        }
+    }
+}
+
+// What stands after `at`.
+fn put_where(out: &mut [u8], at: usize, told: Told) -> usize
+    requires { ⌜ Room (now out) at (whereText told) ⌝ }
+    ensures { λ r. ⌜ Written (now (out .entry)) at (whereText told) (now (out .exit)) r ⌝ }
+{
+    let byte = told.byte;
+    let next = put_spaced(out, at, told.place);
+    put_named(out, next, byte)
+}
+
 // What stands after `refused`.
 fn put_place(out: &mut [u8], at: usize, told: Told) -> usize
     requires { ⌜ Room (now out) at (placeText told) ⌝ }
@@ -74,7 +99,7 @@ fn put_place(out: &mut [u8], at: usize, told: Told) -> usize
 {
     let word = put_spaced(out, at, told.number);
     let last = put(out, word, b" at");
-    put_spaced(out, last, told.place)
+    put_where(out, last, told)
 }
 
 // "A refused table gives one line".

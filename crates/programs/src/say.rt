@@ -1,5 +1,6 @@
 // Words, numbers, refusals and bytes on standard output; each says whether it was written.
 use libc::STDOUT_FILENO;
+use refusals::Byte;
 use refusals::Refusal;
 
 // How a byte is said: as two hexadecimal digits, or as a number.
@@ -17,9 +18,17 @@ pub fn number(words: &[u8], n: usize) -> bool {
     text(words) & io::print_decimal(STDOUT_FILENO, n as u64)
 }
 
+fn named(byte: Byte) -> bool {
+    match byte {
+        Byte::Unnamed => true,
+        Byte::Named(i) => number(b" byte ", i),
+    }
+}
+
 pub fn refusal(r: Refusal) -> bool {
     let told = r.told();
-    number(b"refused ", told.number) & number(b" at ", told.place)
+    let byte = told.byte;
+    number(b"refused ", told.number) & number(b" at ", told.place) & named(byte)
 }
 
 fn byte(form: Form, b: u8) -> bool {

@@ -17,22 +17,11 @@ use Rattle.laws.specs.Says.{Says}
 use Rattle.record.specs.declared.written.Columns.{Columns}
 use Rattle.record.specs.Form.{pick, byteAt, kindByte, orderByte, threadByte, parentByte, sourceByte, locationByte, flagsByte, readsKind, writesKind, readU, writtenU, rows, inRow, orderFrom, linkFrom, linkByte, word, valueFrom, eventFrom, readFrom, writtenFrom, recordFrom, numberOf, flagsOf, columnsOf, bytesBy, encode}
 use Rattle.record.specs.Refused.{Marked, InRow, Rested}
-use Rattle.record.proofs.Exact.{read-u, written-u}
+use Rattle.record.proofs.Cases.{four, five}
+use Rattle.record.proofs.Tests.{read-u, written-u}
 use Rattle.record.proofs.Parts.{Whole}
 
 -- ---- kinds and orders
-
--- what holds at 0, 1, 2 and 3 holds below 4
-pub four : (P : ℕ → Type 0) → P 0 → P 1 → P 2 → P 3 → (n : ℕ) → n < 4 → P n
-four P a b c d zero h = a
-four P a b c d (suc zero) h = b
-four P a b c d (suc (suc zero)) h = c
-four P a b c d (suc (suc (suc zero))) h = d
-four P a b c d (suc (suc (suc (suc n)))) h = absurd (omega arith)
-
-five : (P : ℕ → Type 0) → P 0 → P 1 → P 2 → P 3 → P 4 → (n : ℕ) → n < 5 → P n
-five P a b c d e zero h = a
-five P a b c d e (suc n) h = four (λ (m : ℕ). P (suc m)) b c d e n (omega arith)
 
 -- an entry that is set lies within its list
 within-list : {A : Type 0} (set? : A → Bool) (d : A) → ¬ T (set? d) → (l : List A) (i : ℕ) → T (set? (getD l i d)) → i < length l
@@ -155,7 +144,7 @@ each-byte b whole mark row rest =
     let columns = columns-by (orderFrom o) (locationByte b) (readFrom b) (writtenFrom b) k (kind-below k o row) in
     let read = value-bytes (readsKind k) (readU f) (read-u b) (byteAt b 10) (byteAt b 11) (whole .low-read) (rest .read-low) (rest .read-high) in
     let written = value-bytes (writesKind k) (writtenU f) (written-u b) (byteAt b 12) (byteAt b 13) (whole .low-written) (rest .written-low) (rest .written-high) in
-    let small : f < 4 = omega (arith, rest .flags) in
+    let small : f < 4 = omega (arith, rest .flags .few) in
     ap (bytesBy (threadByte b) (linkFrom (parentByte b)) (linkFrom (sourceByte b))) columns
     ∙ simp (
       order-of-row k o row,
@@ -163,8 +152,8 @@ each-byte b whole mark row rest =
       link-byte-back (sourceByte b),
       rests (eqb k 0) (locationByte b) (λ t. rest .location (eqb→eq k 0 t)),
       flags-by,
-      u-back (readsKind k) (readU f) (read-u b) (word (byteAt b 10) (byteAt b 11)) (rest .read-bit),
-      u-back (writesKind k) (writtenU f) (written-u b) (word (byteAt b 12) (byteAt b 13)) (rest .written-bit),
+      u-back (readsKind k) (readU f) (read-u b) (word (byteAt b 10) (byteAt b 11)) (rest .flags .read-bit),
+      u-back (writesKind k) (writtenU f) (written-u b) (word (byteAt b 12) (byteAt b 13)) (rest .flags .written-bit),
       flags-back f small,
       read .0,
       read .1,

@@ -1,85 +1,115 @@
--- Sixteen bytes are read as a record, or refused with 2 to 5, exactly as the rows of document 01 say.
-use mathlib.Core.Path.{_≡_}
-use mathlib.Core.Bool.{Bool, true, false, _||_}
+-- Sixteen bytes are read as a record, or refused with 2 to 5 and the byte at fault, exactly as the documents say.
+use mathlib.Core.Path.{_≡_, refl, sym, ap, _∙_}
+use mathlib.Core.Bool.{Bool, true, false}
+use mathlib.Core.Option.{some}
 use mathlib.Core.List.{List}
-use Prim.Native.Nat.{ℕ, _%_}
-use lib.Dec.{eqb}
+use Prim.Native.Nat.{ℕ, _<_, _≤_}
+use native.Mathlib.Omega.{arith}
+use lib.Dec.{leb}
 use Rattle.laws.specs.Says.{Says}
-use Rattle.laws.proofs.Says.{says-yes, says-T, says-eq, says-le, says-not, says-and, says-if, says-iff}
-use Rattle.record.specs.Form.{byteAt, kindByte, orderByte, threadByte, sourceByte, locationByte, flagsByte, readsKind, writesKind, readU, writtenU, marked, inRow, rested, inRange, recordFrom, decidedBy, decode}
-use Rattle.record.specs.Refused.{Marked, InRow, Reads, Writes, ReadU, WrittenU, Rested, InRange, ReadAs, good, bad-2, bad-3, bad-4, bad-5}
+use Rattle.laws.specs.Least.{Least, LeastNumber}
+use Rattle.laws.proofs.Least.{least-one, number-one}
+use Rattle.laws.proofs.Says.{says-yes, says-no, says-T, says-le, says-one}
+use Rattle.refusals.specs.declared.Fault.{Fault}
+use Rattle.refusals.specs.declared.Fault.the-variants as fault
+use Rattle.refusals.specs.Numbers.{faultByte}
+use Rattle.record.specs.declared.Decoded.{Decoded}
+use Rattle.record.specs.declared.Decoded.the-variants.{Bad}
+use Rattle.record.specs.Form.{kindByte, orderByte, threadByte, locationByte, marked, inRow, rested, leastRestless, recordFrom, decidedBy, decode}
+use Rattle.record.specs.Refused.{Marked, InRow, Rested, AtFault, ReadAs, good, bad-2, bad-3-kind, bad-3-order, bad-4, bad-5-thread, bad-5-location}
+use Rattle.record.proofs.AtFault.{restless, least-at-fault}
+use Rattle.record.proofs.BytesBack.{kind-below}
+use Rattle.record.proofs.Tests.{says-marked, says-rested}
 
--- a test for "unless P, Q"
-says-unless : {a b : Bool} {P Q : Type 0} → Says a P → Says b Q → Says (a || b) (¬ P → Q)
-says-unless {a = true} s r = record { to = λ _ n. absurd (n (s .to tt)); from = λ _. tt }
-says-unless {a = false} s r = record { to = λ x _. r .to x; from = λ f. r .from (f (λ p. s .from p)) }
+is-true : {t : Bool} {P : Type 0} → Says t P → P → t ≡ true
+is-true s p = says-one s (says-yes p)
+
+is-false : {t : Bool} {P : Type 0} → Says t P → ¬ P → t ≡ false
+is-false s n = says-one s (says-no n)
 
 module _ (b : List ℕ) where
-  pub says-marked : Says (marked b) (Marked b)
-  says-marked =
-      says-iff (λ (x, y). record { first = x; second = y }) (λ m. (m .first, m .second))
-      (says-and (says-eq (byteAt b 0) 0x45) (says-eq (byteAt b 1) 0x56))
+  abbrev Kind : Type 0
+  Kind = kindByte b ≤ 3
 
-  reads : Says (readsKind (kindByte b)) (Reads b)
-  reads = says-T (readsKind (kindByte b))
+  abbrev Thread : Type 0
+  Thread = threadByte b ≤ 15
 
-  writes : Says (writesKind (kindByte b)) (Writes b)
-  writes = says-T (writesKind (kindByte b))
+  abbrev Location : Type 0
+  Location = locationByte b ≤ 31
 
-  pub read-u : Says (readU (flagsByte b)) (ReadU b)
-  read-u = says-eq (flagsByte b % 2) 1
+  -- a kind above 3 has no row
+  row-kind : InRow b → Kind
+  row-kind row = omega (arith, kind-below (kindByte b) (orderByte b) row)
 
-  pub written-u : Says (writtenU (flagsByte b)) (WrittenU b)
-  written-u = says-le 2 (flagsByte b)
+  says-kind : Says (leb (kindByte b) 3) Kind
+  says-kind = says-le (kindByte b) 3
 
-  zero-at : (i : ℕ) → Says (eqb (byteAt b i) 0) (byteAt b i ≡ 0)
-  zero-at i = says-eq (byteAt b i) 0
+  says-row : Says (inRow (kindByte b) (orderByte b)) (InRow b)
+  says-row = says-T (inRow (kindByte b) (orderByte b))
 
-  pub says-rested : Says (rested b) (Rested b)
-  says-rested =
-      says-iff
-      (λ (source, (location, ((flags, (read-bit, written-bit)), (nine, (read-low, (read-high, (written-low, (written-high, (fourteen, (fifteen, _)))))))))).
-      record {
-        source = source;
-        location = location;
-        flags = flags;
-        read-bit = read-bit;
-        written-bit = written-bit;
-        nine = nine;
-        read-low = read-low;
-        read-high = read-high;
-        written-low = written-low;
-        written-high = written-high;
-        fourteen = fourteen;
-        fifteen = fifteen;
-      })
-      (λ r.
-      (r .source, (r .location, ((r .flags, (r .read-bit, r .written-bit)), (r .nine, (r .read-low, (r .read-high, (r .written-low, (r .written-high, (r .fourteen, (r .fifteen, tt {0})))))))))))
-      (says-and (says-unless reads (says-eq (sourceByte b) 255))
-      (says-and (says-if (says-eq (kindByte b) 0) (zero-at 7))
-      (says-and (says-and (says-le (flagsByte b) 3) (says-and (says-unless reads (says-not read-u)) (says-unless writes (says-not written-u))))
-      (says-and (zero-at 9)
-      (says-and (says-unless (says-and reads (says-not read-u)) (zero-at 10))
-      (says-and (says-unless (says-and reads (says-not read-u)) (zero-at 11))
-      (says-and (says-unless (says-and writes (says-not written-u)) (zero-at 12))
-      (says-and (says-unless (says-and writes (says-not written-u)) (zero-at 13))
-      (says-and (zero-at 14) (says-and (zero-at 15) (says-yes (tt {0}))))))))))))
+  says-thread : Says (leb (threadByte b) 15) Thread
+  says-thread = says-le (threadByte b) 15
 
-  pub says-in-range : Says (inRange b) (InRange b)
-  says-in-range =
-      says-iff (λ (x, y). record { thread = x; location = y }) (λ r. (r .thread, r .location))
-      (says-and (says-le (threadByte b) 15) (says-le (locationByte b) 31))
+  says-location : Says (leb (locationByte b) 31) Location
+  says-location = says-le (locationByte b) 31
 
   decided :
-      (m w s g : Bool) → Says m (Marked b) → Says w (InRow b) → Says s (Rested b) → Says g (InRange b) → ReadAs b (decidedBy m w s g (recordFrom b))
+      (m k w s t l : Bool) → Says m (Marked b) → Says k Kind → Says w (InRow b) → Says s (Rested b) → Says t Thread → Says l Location
+      → (s ≡ false → LeastNumber (AtFault b) (some (leastRestless b))) → ReadAs b (decidedBy m k w s t l (leastRestless b) (recordFrom b))
   unfolding decidedBy
-  decided false w s g M W S G = bad-2 (λ m. M .from m)
-  decided true false s g M W S G = bad-3 (M .to tt) (λ w. W .from w)
-  decided true true false g M W S G = bad-4 (M .to tt) (W .to tt) (λ s. S .from s)
-  decided true true true false M W S G = bad-5 (M .to tt) (W .to tt) (S .to tt) (λ g. G .from g)
-  decided true true true true M W S G = good (M .to tt) (W .to tt) (S .to tt) (G .to tt)
+  decided false k w s t l M K W S H L F = bad-2 (λ m. M .from m)
+  decided true false w s t l M K W S H L F = bad-3-kind (M .to tt) (λ w. K .from (row-kind w)) (λ k. K .from k)
+  decided true true false s t l M K W S H L F = bad-3-order (M .to tt) (λ w. W .from w) (K .to tt)
+  decided true true true false t l M K W S H L F = bad-4 (M .to tt) (W .to tt) (λ s. S .from s) (F refl)
+  decided true true true true false l M K W S H L F =
+      bad-5-thread (M .to tt) (W .to tt) (S .to tt) (λ g. H .from (g .thread)) (λ t. H .from t)
+  decided true true true true true false M K W S H L F =
+      bad-5-location (M .to tt) (W .to tt) (S .to tt) (λ g. L .from (g .location)) (H .to tt)
+  decided true true true true true true M K W S H L F =
+      good (M .to tt) (W .to tt) (S .to tt) (record { thread = H .to tt; location = L .to tt })
+
+  -- what the tests say decides
+  pub decided-so :
+      {m k w s t l : Bool} → marked b ≡ m → leb (kindByte b) 3 ≡ k → inRow (kindByte b) (orderByte b) ≡ w → rested b ≡ s → leb (threadByte b) 15 ≡ t → leb (locationByte b) 31 ≡ l
+      → decode b ≡ decidedBy m k w s t l (leastRestless b) (recordFrom b)
+  unfolding decode
+  decided-so m k w s t l = λ i. decidedBy (m i) (k i) (w i) (s i) (t i) (l i) (leastRestless b) (recordFrom b)
 
   pub read-as : ReadAs b (decode b)
   unfolding decode
-  read-as =
-      decided (marked b) (inRow (kindByte b) (orderByte b)) (rested b) (inRange b) says-marked (says-T (inRow (kindByte b) (orderByte b))) says-rested says-in-range
+  read-as = decided _ _ _ _ _ _ (says-marked b) says-kind says-row (says-rested b) says-thread says-location (least-at-fault b)
+
+  -- ---- one answer, and one byte
+
+  one-least : {i : ℕ} → ¬ Rested b → LeastNumber (AtFault b) (some i) → leastRestless b ≡ i
+  one-least n first =
+      let same = least-one number-one (least-at-fault b (is-false (says-rested b) n)) first in
+      cc
+
+  pub read-is : {d : Decoded} → ReadAs b d → decode b ≡ d
+  unfolding decidedBy
+  read-is (good m w s g) =
+      decided-so (is-true (says-marked b) m) (is-true says-kind (row-kind w)) (is-true says-row w) (is-true (says-rested b) s) (is-true says-thread (g .thread)) (is-true says-location (g .location))
+  read-is (bad-2 m) = decided-so (is-false (says-marked b) m) refl refl refl refl refl
+  read-is (bad-3-kind m w k) = decided-so (is-true (says-marked b) m) (is-false says-kind k) refl refl refl refl
+  read-is (bad-3-order m w k) = decided-so (is-true (says-marked b) m) (is-true says-kind k) (is-false says-row w) refl refl refl
+  read-is (bad-4 m w s first) =
+      decided-so (is-true (says-marked b) m) (is-true says-kind (row-kind w)) (is-true says-row w) (is-false (says-rested b) s) refl refl
+      ∙ ap (λ (i : ℕ). Bad (fault.Rest i)) (one-least s first)
+  read-is (bad-5-thread m w s g t) =
+      decided-so (is-true (says-marked b) m) (is-true says-kind (row-kind w)) (is-true says-row w) (is-true (says-rested b) s) (is-false says-thread t) refl
+  read-is (bad-5-location m w s g t) =
+      decided-so (is-true (says-marked b) m) (is-true says-kind (row-kind w)) (is-true says-row w) (is-true (says-rested b) s) (is-true says-thread t)
+      (is-false says-location (λ l. g (record { thread = t; location = l })))
+
+  pub read-one : {x y : Decoded} → ReadAs b x → ReadAs b y → x ≡ y
+  read-one p q = sym (read-is p) ∙ read-is q
+
+  -- the byte that is named is one of the sixteen
+  pub named-inside : {f : Fault} → ReadAs b (Bad f) → faultByte f < 16
+  named-inside (bad-2 _) = omega arith
+  named-inside (bad-3-kind _ _ _) = omega arith
+  named-inside (bad-3-order _ _ _) = omega arith
+  named-inside (bad-4 _ _ _ (Least.least at _)) = restless b at .to
+  named-inside (bad-5-thread _ _ _ _ _) = omega arith
+  named-inside (bad-5-location _ _ _ _ _) = omega arith

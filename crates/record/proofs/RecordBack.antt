@@ -19,6 +19,7 @@ use Rattle.record.specs.declared.written.Columns.{Columns}
 use Rattle.record.specs.declared.Decoded.the-variants.{Good}
 use Rattle.record.specs.Form.{orderFrom, linkFrom, linkByte, word, readU, writtenU, valueFrom, eventFrom, numberOf, flagsOf, inRow, rested, decidedBy, decode, columnsOf, bytesBy, encode}
 use Rattle.record.specs.Fits.{Fits}
+use Rattle.record.proofs.BytesBack.{kind-below}
 
 order-back : (o : Order) → orderFrom (codeOf o) ≡ o
 unfolding orderFrom
@@ -85,6 +86,7 @@ unfolding decidedBy decode encode
 decode-encode r h =
     let f = columnsOf (r .event) in
     simp (
+      le-leb (f .kind) 3 (omega (arith, kind-below (f .kind) (codeOf (f .order)) (h .row))),
       is-true (inRow (f .kind) (codeOf (f .order))) (h .row),
       rested-back (r .thread) (r .parent) (r .source) (r .event) (h .only-reads),
       le-leb _ _ (h .thread),

@@ -18,7 +18,8 @@ use Rattle.record.specs.Form.{pick, byteAt, kindByte, orderByte, parentB
 use Rattle.record.specs.Refused.{Marked, InRow, Rested, InRange, ReadAs, good}
 use Rattle.record.specs.Fits.{Bytes, Fits}
 use Rattle.record.proofs.Exact.{read-as}
-use Rattle.record.proofs.BytesBack.{kind-below, columnsBy, columns-by, order-of-row, rests, four, same-bytes}
+use Rattle.record.proofs.BytesBack.{kind-below, columnsBy, columns-by, order-of-row, rests, same-bytes}
+use Rattle.record.proofs.Cases.{four}
 use Rattle.record.proofs.Parts.{Whole}
 pub use Rattle.record.proofs.RecordBack.{decode-encode}
 

@@ -15,7 +15,7 @@ use Rattle.events.specs.declared.Link.{Link}
 use Rattle.events.specs.declared.Link.the-variants.{Absent, To}
 use Rattle.events.specs.declared.Record.{Record}
 use Rattle.events.specs.Words.{codeOf, orderOf, locationOf, readOf, writtenOf}
-use Rattle.refusals.specs.declared.Fault.the-variants.{Mark, Kind, Rest, Range}
+use Rattle.refusals.specs.declared.Fault.the-variants as fault
 use Rattle.record.specs.declared.written.Columns.{Columns}
 use Rattle.record.specs.declared.rules.ByteTest.{ByteTest}
 use Rattle.record.specs.declared.rules.ByteTest.the-variants.{Fine, Faulty}
@@ -112,13 +112,18 @@ abbrev pub allFrom : (ℕ → Bool) → ℕ → ℕ → Bool
 allFrom f i zero = true
 allFrom f i (suc n) = f i && allFrom f (suc i) n
 
+-- and the least of them that fails; the number after them where none does
+abbrev pub leastFailing : (ℕ → Bool) → ℕ → ℕ → ℕ
+leastFailing f i zero = i
+leastFailing f i (suc n) = pick (f i) (leastFailing f (suc i) n) i
+
 -- the bytes 6 to 15
 abbrev pub rested : List ℕ → Bool
 rested b = allFrom (restsAt b) 6 10
 
--- "thread, 0 to 15", "location, 0 to 31"
-abbrev pub inRange : List ℕ → Bool
-inRange b = leb (threadByte b) 15 && leb (locationByte b) 31
+-- "the least byte at fault", or the size of a record
+unfoldable pub leastRestless : List ℕ → ℕ
+leastRestless b = leastFailing (restsAt b) 6 10
 
 -- ---- the record that the bytes hold
 
@@ -153,12 +158,22 @@ recordFrom b = record {
   event = eventFrom (kindByte b) (orderFrom (orderByte b)) (locationByte b) (readFrom b) (writtenFrom b);
 }
 
--- "numbers 2 to 8 in order within one; the first fault is the answer": 2 to 5
-unfoldable pub decidedBy : Bool → Bool → Bool → Bool → Record → Decoded
-decidedBy mark row rest range r = pick mark (pick row (pick rest (pick range (Good r) (Bad Range)) (Bad Rest)) (Bad Kind)) (Bad Mark)
+-- "numbers 2 to 8 in order within one; the first fault is the answer": 2 to 5. "byte 2 if the kind is above 3, else 3",
+-- "byte 4 if the thread is at fault, else 7": of two faults with one number the first is the answer too
+unfoldable pub decidedBy : Bool → Bool → Bool → Bool → Bool → Bool → ℕ → Record → Decoded
+decidedBy mark kind row rest thread location i r =
+    pick mark
+    (pick kind
+    (pick row
+    (pick rest (pick thread (pick location (Good r) (Bad fault.Location)) (Bad fault.Thread)) (Bad (fault.Rest i)))
+    (Bad fault.Order))
+    (Bad fault.Kind))
+    (Bad fault.Mark)
 
 unfoldable pub decode : List ℕ → Decoded
-decode b = decidedBy (marked b) (inRow (kindByte b) (orderByte b)) (rested b) (inRange b) (recordFrom b)
+decode b =
+    decidedBy (marked b) (leb (kindByte b) 3) (inRow (kindByte b) (orderByte b)) (rested b) (leb (threadByte b) 15) (leb (locationByte b) 31)
+    (leastRestless b) (recordFrom b)
 
 -- the record r unless a test was failed
 abbrev pub unlessFaulty : ByteTest → Record → Decoded

@@ -1,8 +1,7 @@
 // The tests 2 to 5 on the sixteen bytes of a record. Each looks at its bytes from the least upward.
 ghost use mathlib.Core.Path.{_≡_};
 ghost use lib.ListN.{length};
-ghost use Rattle.record.specs.Form.{recordSize, readsKind, writesKind, readU, writtenU, marked, inRow, flagsRest, restsAs, inRange, recordFrom, decode, unlessFaulty};
-ghost use Rattle.record.specs.Restless.{FirstRestless};
+ghost use Rattle.record.specs.Form.{recordSize, readsKind, writesKind, readU, writtenU, marked, inRow, flagsRest, restsAs, leastRestless, recordFrom, decode, unlessFaulty};
 use crate::places::FLAGS;
 use crate::places::INIT;
 use crate::places::KIND;
@@ -110,7 +109,7 @@ fn rests(kind: u8, flags: u8, i: usize, byte: u8) -> bool
 // The least byte, from the source on, that does not rest and should; the size of a record if there is none.
 fn least_restless(b: &[u8]) -> usize
     requires { ⌜ length (now b) ≡ recordSize ⌝ }
-    ensures { λ r. ⌜ FirstRestless (now (b .entry)) r ⌝ }
+    ensures { λ r. ⌜ r ≡ leastRestless (now (b .entry)) ⌝ }
 {
     for i in SOURCE..SIZE {
         if !rests(b[KIND], b[FLAGS], i, b[i]) {
@@ -118,14 +117,6 @@ fn least_restless(b: &[u8]) -> usize
         }
     }
     SIZE
-}
-
-// Refusal 5 is not given.
-fn in_range(b: &[u8]) -> bool
-    requires { ⌜ length (now b) ≡ recordSize ⌝ }
-    ensures { λ r. ⌜ r ≡ inRange (now (b .entry)) ⌝ }
-{
-    (b[THREAD] <= 15) & (b[LOCATION] <= 31)
 }
 
 // "numbers 2 to 8 in order within one; the first fault is the answer": 2 to 5.
@@ -136,14 +127,21 @@ pub fn first_fault(b: &[u8]) -> ByteTest
     if !marked_at(b) {
         return ByteTest::Faulty(Fault::Mark);
     }
-    if !in_row(b[KIND], b[ORDER]) {
+    if 4 <= b[KIND] {
         return ByteTest::Faulty(Fault::Kind);
     }
-    if least_restless(b) < SIZE {
-        return ByteTest::Faulty(Fault::Rest);
+    if !in_row(b[KIND], b[ORDER]) {
+        return ByteTest::Faulty(Fault::Order);
     }
-    if !in_range(b) {
-        return ByteTest::Faulty(Fault::Range);
+    let restless = least_restless(b);
+    if restless < SIZE {
+        return ByteTest::Faulty(Fault::Rest(restless));
+    }
+    if 16 <= b[THREAD] {
+        return ByteTest::Faulty(Fault::Thread);
+    }
+    if 32 <= b[LOCATION] {
+        return ByteTest::Faulty(Fault::Location);
     }
     ByteTest::Fine
 }

@@ -4,51 +4,51 @@ use mathlib.Core.Bool.{cond}
 use Prim.Native.Nat.{ℕ}
 use lib.Dec.{eqb}
 use Rattle.refusals.specs.declared.Fault.{Fault}
-use Rattle.refusals.specs.declared.Fault.the-variants.{Mark, Kind, Rest, Range, Parent, Source, Twin}
+use Rattle.refusals.specs.declared.Fault.the-variants.{Mark, Kind, Order, Rest, Thread, Location, Parent, Source, Twin}
+use Rattle.refusals.specs.declared.Byte.{Byte}
+use Rattle.refusals.specs.declared.Byte.the-variants.{Unnamed, Named}
 use Rattle.refusals.specs.declared.Refusal.{Refusal}
 use Rattle.refusals.specs.declared.Refusal.the-variants.{Length, Record, Selection, Incomplete, Room, Full, Past, Header, Short}
 use Rattle.refusals.specs.declared.Told.{Told}
-use Rattle.refusals.specs.Numbers.{at, faultNumber, told}
+use Rattle.refusals.specs.Numbers.{faultNumber, faultByte, told}
 
-faultFrom : ℕ → Fault
-faultFrom k =
-    cond (eqb k 2) Mark (cond (eqb k 3) Kind (cond (eqb k 4) Rest (cond (eqb k 5) Range (cond (eqb k 6) Parent (cond (eqb k 7) Source Twin)))))
+-- by its number and its byte
+faultFrom : ℕ → ℕ → Fault
+faultFrom k i =
+    cond (eqb k 2) Mark
+    (cond (eqb k 3) (cond (eqb i 2) Kind Order)
+    (cond (eqb k 4) (Rest i) (cond (eqb k 5) (cond (eqb i 4) Thread Location) (cond (eqb k 6) Parent (cond (eqb k 7) Source Twin)))))
 
-fault-back : (f : Fault) → faultFrom (faultNumber f) ≡ f
+fault-back : (f : Fault) → faultFrom (faultNumber f) (faultByte f) ≡ f
 unfolding faultFrom
 fault-back Mark = refl
 fault-back Kind = refl
-fault-back Rest = refl
-fault-back Range = refl
+fault-back Order = refl
+fault-back (Rest i) = refl
+fault-back Thread = refl
+fault-back Location = refl
 fault-back Parent = refl
 fault-back Source = refl
 fault-back Twin = refl
 
--- a number that is none of the others is a record's
-refusalFrom : Told → Refusal
-refusalFrom x =
-    cond (eqb (x .number) 1) Length
-    (cond (eqb (x .number) 9) Selection
-    (cond (eqb (x .number) 10) (Incomplete (x .place))
-    (cond (eqb (x .number) 11) Room
-    (cond (eqb (x .number) 12) Full
-    (cond (eqb (x .number) 13) (Past (x .place))
-    (cond (eqb (x .number) 14) (Header (x .place)) (cond (eqb (x .number) 15) (Short (x .place)) (Record (faultFrom (x .number)) (x .place)))))))))
+-- a refusal that names no byte, by its number and its place
+placedFrom : ℕ → ℕ → Refusal
+placedFrom k n =
+    cond (eqb k 1) Length
+    (cond (eqb k 9) Selection
+    (cond (eqb k 10) (Incomplete n) (cond (eqb k 11) Room (cond (eqb k 12) Full (cond (eqb k 13) (Past n) (cond (eqb k 14) (Header n) (Short n)))))))
 
-record-back : (f : Fault) (n : ℕ) → refusalFrom (at (faultNumber f) n) ≡ Record (faultFrom (faultNumber f)) n
-unfolding refusalFrom
-record-back Mark n = refl
-record-back Kind n = refl
-record-back Rest n = refl
-record-back Range n = refl
-record-back Parent n = refl
-record-back Source n = refl
-record-back Twin n = refl
+refusalBy : ℕ → ℕ → Byte → Refusal
+refusalBy k n Unnamed = placedFrom k n
+refusalBy k n (Named i) = Record (faultFrom k i) n
+
+refusalFrom : Told → Refusal
+refusalFrom x = refusalBy (x .number) (x .place) (x .byte)
 
 refusal-back : (r : Refusal) → refusalFrom (told r) ≡ r
-unfolding refusalFrom
+unfolding placedFrom refusalBy refusalFrom
 refusal-back Length = refl
-refusal-back (Record f n) = record-back f n ∙ ap (λ (g : Fault). Record g n) (fault-back f)
+refusal-back (Record f n) = ap (λ (g : Fault). Record g n) (fault-back f)
 refusal-back Selection = refl
 refusal-back (Incomplete n) = refl
 refusal-back Room = refl

@@ -1,2 +1,2 @@
--- Document 01's number and place of each refusal.
+-- The number, the place and the byte of each refusal.
 pub mod Numbers

@@ -173,7 +173,7 @@ sheet-short {answers = answers} {e = cleanly} p = omega (arith, figures-short (t
 sheet-short {answers = answers} {e = refused told} p = by (eqb (told .number) 1)
   where
     refusal : length (refusedText told) ≤ 21
-    refusal = let small = end-small (p .holds .all) in refused-short told (omega (arith, small .number)) (omega (arith, small .place))
+    refusal = let small = end-small (p .holds .all) in refused-short told (omega (arith, small .number)) (omega (arith, small .place)) (small .byte)
 
     by : (b : Bool) → length (cond b (refusedText told) (figuresText (tally.figuresOf answers) ++ refusedText told)) ≤ longestSheet
     by true = omega (arith, refusal)

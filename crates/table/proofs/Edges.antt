@@ -8,7 +8,7 @@ use Rattle.events.specs.declared.Value.the-variants.{Known}
 use Rattle.events.specs.declared.Event.the-variants.{Store}
 use Rattle.events.specs.declared.Link.the-variants.{Absent, To}
 use Rattle.events.specs.declared.Record.{Record}
-use Rattle.refusals.specs.declared.Fault.the-variants.{Range}
+use Rattle.refusals.specs.declared.Fault.the-variants.{Thread, Location}
 use Rattle.record.specs.declared.Decoded.the-variants.{Good, Bad}
 use Rattle.record.specs.Form.{inRow, orderFrom, linkFrom, valueFrom, eventFrom, decidedBy, decode, encode}
 use Rattle.model.specs.Table.{listed}
@@ -37,11 +37,11 @@ pub thread-15-location-31 : decode (encode (store 15 31)) ≡ Good (store 15 31)
 unfolding inRow orderFrom linkFrom valueFrom eventFrom decidedBy decode encode
 thread-15-location-31 = refl
 
-pub thread-16 : decode (encode (store 16 31)) ≡ Bad Range
+pub thread-16 : decode (encode (store 16 31)) ≡ Bad Thread
 unfolding inRow orderFrom linkFrom valueFrom eventFrom decidedBy decode encode
 thread-16 = refl
 
-pub location-32 : decode (encode (store 15 32)) ≡ Bad Range
+pub location-32 : decode (encode (store 15 32)) ≡ Bad Location
 unfolding inRow orderFrom linkFrom valueFrom eventFrom decidedBy decode encode
 location-32 = refl
 

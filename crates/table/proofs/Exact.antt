@@ -1,5 +1,5 @@
 -- What the code computes for a record is document 01's answer: exact, whichever list of bytes the record is said to stand in.
-use mathlib.Core.Path.{_≡_, refl, sym, ap, _∙_}
+use mathlib.Core.Path.{_≡_, refl, sym, subst, ap, _∙_}
 use mathlib.Core.Bool.{Bool, true, false}
 use mathlib.Core.List.{List}
 use Prim.Native.Nat.{ℕ, _<_, _≤_}
@@ -7,9 +7,12 @@ use native.Mathlib.Omega.{arith}
 use Rattle.laws.specs.Says.{Says}
 use Rattle.events.specs.declared.Record.{Record}
 use Rattle.refusals.specs.declared.Fault.{Fault}
+use Rattle.refusals.specs.Numbers.{faultByte}
 use Rattle.record.specs.declared.Decoded.{Decoded}
 use Rattle.record.specs.declared.Decoded.the-variants.{Good, Bad}
 use Rattle.record.specs.Form.{decode, part}
+use Rattle.record.specs.Refused.{ReadAs}
+use Rattle.record.proofs.Exact as bytes
 use Rattle.model.specs.WellFormed.{Refused6, Refused7, Refused8}
 use Rattle.table.specs.declared.Checked.the-variants.{Fine, Faulty}
 use Rattle.table.specs.Events.{recordOf, eventsOf}
@@ -31,6 +34,13 @@ passes-of (passes p) = p
 
 pub fault-of : {b : List ℕ} {n : ℕ} {f : Fault} → CheckAnswer b n (Faulty f) → FaultAt b n f
 fault-of (faulty x) = x
+
+-- the byte that is named is one of the record's sixteen
+pub named-inside : {b : List ℕ} {n : ℕ} {f : Fault} → FaultAt b n f → faultByte f < 16
+named-inside {b} {n} (by-bytes e) = bytes.named-inside (part b n) (subst (ReadAs (part b n)) e (bytes.read-as (part b n)))
+named-inside (by-6 _ _) = omega arith
+named-inside (by-7 _ _ _) = omega arith
+named-inside (by-8 _ _ _ _) = omega arith
 
 -- the same bytes are the same record, and decode alike
 pub alike-at : (b b′ : List ℕ) (n : ℕ) → part b n ≡ part b′ n → eventsOf b .at n ≡ eventsOf b′ .at n

@@ -6,7 +6,7 @@ use native.Mathlib.Omega.{arith}
 use native.Mathlib.Decide.{decLt}
 use Rattle.refusals.specs.declared.Fault.{Fault}
 use Rattle.refusals.specs.declared.Told.{Told}
-use Rattle.refusals.specs.Numbers.{at, faultNumber}
+use Rattle.refusals.specs.Numbers.{ofRecord}
 use Rattle.refusals.proofs.Known.{same-refusal, told-one}
 use Rattle.record.specs.declared.Decoded.the-variants.{Bad}
 use Rattle.record.specs.Form.{decode, part}
@@ -71,7 +71,7 @@ module _ {b : List ℕ} where
   first-one : {u v : Told} → FirstFault b u → FirstFault b v → u ≡ v
   first-one (first-fault {f = f} _ before x) (first-fault _ before′ y) =
       let same = one-place before x before′ y in
-      ap₂ at (ap faultNumber (fault-one (subst (λ (k : ℕ). FaultAt b k f) same x) y)) same
+      ap₂ ofRecord (fault-one (subst (λ (k : ℕ). FaultAt b k f) same x) y) same
 
   all-pass : {A : Type 0} {u : Told} → FirstFault b u → ((m : ℕ) → m < countOf b → Passes b m) → A
   all-pass (first-fault {n = n} h _ x) all = no-fault (all n h) x

@@ -10,7 +10,7 @@ use Rattle.refusals.specs.declared.Fault.{Fault}
 use Rattle.refusals.specs.declared.Fault.the-variants.{Parent, Source, Twin}
 use Rattle.refusals.specs.declared.Refusal.{Refusal}
 use Rattle.refusals.specs.declared.Told.{Told}
-use Rattle.refusals.specs.Numbers.{at, faultNumber, told}
+use Rattle.refusals.specs.Numbers.{at, ofRecord, told}
 use Rattle.limits.specs.Limit.{limit}
 use Rattle.record.specs.declared.Decoded.the-variants.{Good, Bad}
 use Rattle.record.specs.Form.{recordSize, decode, part}
@@ -52,7 +52,7 @@ module _ (b : List ℕ) where
 
   -- "Records are tested from 0 upward .. the first fault is the answer. Its place is the record number": what is told of it
   pub data FirstFault : Told → Type 0 where
-    first-fault : {n : ℕ} {f : Fault} → n < countOf b → ((m : ℕ) → m < n → Passes m) → FaultAt n f → FirstFault (at (faultNumber f) n)
+    first-fault : {n : ℕ} {f : Fault} → n < countOf b → ((m : ℕ) → m < n → Passes m) → FaultAt n f → FirstFault (ofRecord f n)
 
   -- the test of the records alone
   pub data RecordsAnswer : Tested → Type 0 where

@@ -10,6 +10,7 @@ use programs::large;
 use programs::large::Large;
 use programs::say;
 use programs::say::Form;
+use record::places::FLAGS;
 use record::places::KIND;
 use record::places::LOCATION;
 use record::places::MARK_SECOND;
@@ -20,6 +21,7 @@ use record::places::READ;
 use record::places::SIZE;
 use record::places::SOURCE;
 use record::places::THREAD;
+use record::places::WRITTEN_HIGH;
 use refusals::Refusal;
 use table::Tested;
 
@@ -79,6 +81,9 @@ fn faults() {
     say_changed(b"kind 4:", 2, KIND, 4);
     say_changed(b"order REL of a load:", 2, ORDER, Order::REL);
     say_changed(b"byte 9:", 2, 9, 1);
+    say_changed(b"value written of a load:", 2, WRITTEN_HIGH, 7);
+    say_changed(b"flag 2 of a load:", 2, FLAGS, 2);
+    say_changed(b"flags 4:", 2, FLAGS, 4);
     say_changed(b"source of a store:", 1, SOURCE, 0);
     say_changed(b"parent itself:", 2, PARENT, 2);
     say_changed(b"no parent:", 2, PARENT, NONE);
