@@ -1,33 +1,15 @@
 #!/bin/sh
-# Shows that the comparisons by batches can fail: a reader of batches built wrong on purpose must be found to differ,
-# by whole files and by questions.
-set -eu
-cd "$(dirname "$0")"
-cargo build --release --offline --quiet
-cargo build --release --offline --quiet --features wrong-batch --target-dir target/wrong-batch \
-    --bin second-batch --bin second-questions
-right=$PWD/target/release
-wrong=$PWD/target/wrong-batch/release
+# Shows that the comparisons by batches can fail: a reader of batches wrong on purpose (it asks for the mark of a header that
+# is too short) must be found to differ, by whole files and by questions; the same build without a way agrees.
+cd "$(dirname "$0")" || exit 2
+. ./wrong.sh
 seed=${1:-1}
-work=$(mktemp -d)
-trap 'rm -r "$work"' EXIT
+way=mark-of-short-header
 
-# found WORDS..: the comparison ends with 1, as some differ and others agree.
-found() {
-    status=0
-    "$@" > "$work/found" || status=$?
-    tail -n 1 "$work/found"
-    if [ "$status" -ne 1 ] || ! tail -n 1 "$work/found" | grep -q '^[1-9][0-9]* agree, [1-9][0-9]* differ$'; then
-        echo "the wrong reader was not found"
-        exit 1
-    fi
-}
+../.ci/compare-batches "$seed" "$wrong/second-batch"
+found "$way, batches" ../.ci/compare-batches "$seed" env WRONG="$way" "$wrong/second-batch"
 
-../.ci/compare-batches "$seed" "$right/second-batch"
-found ../.ci/compare-batches "$seed" "$wrong/second-batch"
-
-"$right/second-generate" "$seed" 0 > "$work/questions"
-"$right/second-questions" < "$work/questions" > "$work/right"
-"$wrong/second-questions" < "$work/questions" > "$work/wrong"
-found "$right/second-compare" "$work/questions" "$work/right" "$work/wrong"
+ask "$seed" 0
+compare_questions
+found "$way" compare_questions "$way"
 echo "the wrong reader was found, by files and by questions"

@@ -56,7 +56,7 @@ fn refused_inside(random: &mut Random) -> Vec<Vec<u8>> {
 }
 
 /// The batch with an output of the exact size, a byte less, none, and more.
-fn with_each_output(random: &mut Random, batch: Vec<u8>) -> Vec<Question> {
+pub fn with_each_output(random: &mut Random, batch: Vec<u8>) -> Vec<Question> {
     let exact = text_size(&batch);
     let mut sizes = vec![exact, exact + 1 + random.below(100)];
     if exact > 0 {

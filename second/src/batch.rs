@@ -3,6 +3,7 @@
 use crate::report::{report_on, Report};
 use crate::table::{refuse, Refusal};
 use crate::text::{judge, refusal_line};
+use crate::wrong::{is_asked, Way};
 
 /// "a batch of at most 60,000 bytes"
 pub const MOST_BYTES: usize = 60_000;
@@ -22,7 +23,7 @@ pub struct Batch<'a> {
 pub fn read_batch(bytes: &[u8]) -> Batch<'_> {
     let mut tables = Vec::new();
     if bytes.len() > MOST_BYTES {
-        return Batch { tables, refusal: Some(Refusal { number: 1, place: 0 }) };
+        return Batch { tables, refusal: Some(Refusal::at(1, 0)) };
     }
     let mut place = 0;
     while place < bytes.len() {
@@ -31,7 +32,7 @@ pub fn read_batch(bytes: &[u8]) -> Batch<'_> {
                 tables.push(table);
                 place += HEADER_BYTES + table.len();
             }
-            Err(number) => return Batch { tables, refusal: Some(Refusal { number, place }) },
+            Err(number) => return Batch { tables, refusal: Some(Refusal::at(number, place)) },
         }
     }
     Batch { tables, refusal: None }
@@ -40,8 +41,7 @@ pub fn read_batch(bytes: &[u8]) -> Batch<'_> {
 /// The table behind the header that begins here, or the refusal's number: "15 if fewer than four bytes are
 /// left, then 14 for a wrong batch mark, then 15 if fewer bytes are left than the length says".
 fn next_table(rest: &[u8]) -> Result<&[u8], u8> {
-    // The wrong build asks for the mark first, even where the header is short.
-    if cfg!(feature = "wrong-batch") && !rest.starts_with(&MARK) && !MARK.starts_with(rest) {
+    if is_asked(Way::MarkOfShortHeader) && !rest.starts_with(&MARK) && !MARK.starts_with(rest) {
         return Err(14);
     }
     if rest.len() < HEADER_BYTES {

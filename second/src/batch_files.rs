@@ -1,5 +1,6 @@
 //! Whole batches for the program that reads one, from a seed: endings, sizes, refusals and findings.
 
+use crate::ask_bytes::damaged_batches;
 use crate::batch::HEADER_BYTES;
 use crate::examples::{example, examples};
 use crate::gadgets::{finding_sets, sized_tables};
@@ -20,6 +21,7 @@ pub fn batch_files(seed: u64) -> Vec<Vec<u8>> {
     list.extend(each_ending(&mut random));
     list.extend(around_the_limit(&mut random));
     list.extend(grown_batches(&mut random));
+    list.extend(damaged_batches(seed));
     list
 }
 

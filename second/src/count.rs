@@ -1,6 +1,7 @@
 //! Counting what questions and their answers reach, and naming what is missing.
 
 use crate::count_batches::{reached_by_question, required_of_questions};
+use crate::count_bytes::{reached_by_bytes, required_of_bytes};
 use crate::count_figures::{reached_by_figures, required_of_figures};
 use crate::count_updates::{reached_by_updates, required_of_updates};
 use crate::findings::{FINDINGS, VERDICTS};
@@ -36,7 +37,7 @@ impl Counts {
             }
             _ => Vec::new(),
         };
-        reached.into_iter().for_each(|what| self.add(what));
+        reached.into_iter().chain(reached_by_bytes(question, answer)).for_each(|what| self.add(what));
     }
 
     pub fn add(&mut self, what: String) {
@@ -47,7 +48,7 @@ impl Counts {
         let operation = question.operation();
         let words: Vec<&str> = line.split(' ').collect();
         match words[..] {
-            ["refused", number, "at", place] => {
+            ["refused", number, "at", place] | ["refused", number, "at", place, "byte", _] => {
                 self.add(format!("{operation} refused {number}"));
                 let place = place.parse().unwrap_or(usize::MAX);
                 if (2..=8).any(|one| one.to_string() == number) {
@@ -135,6 +136,7 @@ pub fn required() -> Vec<String> {
     list.extend((1..=30).map(|length| format!("A4 length {length}")));
     list.extend((1..=64).map(|size| format!("size {size}")));
     list.extend(required_of_updates());
+    list.extend(required_of_bytes());
     list.extend(required_of_questions());
     list.extend(required_of_figures());
     list

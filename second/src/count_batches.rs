@@ -2,9 +2,10 @@
 
 use crate::batch::{read_batch, HEADER_BYTES, MARK};
 use crate::count::Counts;
+use crate::count_bytes::{byte_named, required_of_judged_bytes, NAMED};
 use crate::findings::FINDINGS;
 use crate::questions::Question;
-use crate::relations::DEPTH;
+use crate::relations::depth;
 use crate::table::Refusal;
 use crate::text::judge;
 
@@ -27,25 +28,36 @@ pub fn reached_by_question(batch: &[u8], output_size: usize, answer: &[String]) 
     ];
     reached.extend(double_fault(batch, refusal).map(|fault| format!("batch {fault}")));
     for line in bytes_in(&answer[1]).split(|&byte| byte == b'\n') {
-        let words: Vec<&[u8]> = line.split(|&byte| byte == b' ').collect();
-        if let [b"refused", number, b"at", _] = words[..] {
-            reached.push(format!("batch table refused {}", String::from_utf8_lossy(number)));
-        }
+        reached.extend(table_refused(&String::from_utf8_lossy(line)));
     }
     reached
+}
+
+/// What the line of a refused table reaches: its number, and the byte that it names.
+fn table_refused(line: &str) -> Vec<String> {
+    let Some((number, _)) = line.strip_prefix("refused ").and_then(|rest| rest.split_once(' ')) else {
+        return Vec::new();
+    };
+    let mut reached = vec![format!("batch table refused {number}")];
+    reached.extend(byte_named(line).map(|(number, _, byte)| table_byte((number, byte))));
+    reached
+}
+
+fn table_byte((number, byte): (u8, usize)) -> String {
+    format!("batch table refused {number} byte {byte}")
 }
 
 /// A question that was refused 11, by what the second judge would have written.
 fn reached_by_refusal(batch: &[u8], output_size: usize) -> Vec<String> {
     let read = read_batch(batch);
-    let short_by_one = read.answers(DEPTH).len() == output_size + 1;
+    let short_by_one = read.answers(depth()).len() == output_size + 1;
     let output = if short_by_one { "one byte short" } else { "shorter" };
     vec![format!("batch output {output}"), format!("batch refused 11, else {}", ending(batch, read.refusal))]
 }
 
 fn refusal_in(words: &[&str]) -> Option<Refusal> {
     let ["refused", number, "at", place] = words else { return None };
-    Some(Refusal { number: number.parse().ok()?, place: place.parse().ok()? })
+    Some(Refusal::at(number.parse().ok()?, place.parse().ok()?))
 }
 
 /// The bytes that such digits tell.
@@ -65,7 +77,7 @@ fn how_many(tables: usize) -> &'static str {
 
 /// How a batch ended: why, and whether at its first header.
 fn ending(batch: &[u8], refusal: Option<Refusal>) -> String {
-    let Some(Refusal { number, place }) = refusal else { return "ended cleanly".to_string() };
+    let Some(Refusal { number, place, .. }) = refusal else { return "ended cleanly".to_string() };
     let why = match (number, batch.len().saturating_sub(place)) {
         (15, left @ 1..=3) => format!("15 with {left} left"),
         (15, _) => "15 by its length".to_string(),
@@ -79,7 +91,7 @@ const MARK_BEFORE_LENGTH: &str = "ended in 14 where bytes are missing too";
 
 /// Which of two faults was told, where a header has both: the order of the tests shows only there.
 fn double_fault(batch: &[u8], refusal: Option<Refusal>) -> Option<&'static str> {
-    let Refusal { number, place } = refusal?;
+    let Refusal { number, place, .. } = refusal?;
     let rest = batch.get(place..)?;
     if rest.len() < HEADER_BYTES {
         let shared = rest.len().min(MARK.len());
@@ -109,6 +121,7 @@ pub fn required_of_questions() -> Vec<String> {
     let numbers = ["0 tables", "1 table", "several tables", "hundreds of tables"];
     list.extend(numbers.map(|number| format!("batch answered {number}")));
     list.extend((1..=8).map(|number| format!("batch table refused {number}")));
+    list.extend(NAMED.map(table_byte));
     list.extend(["exact", "longer", "one byte short", "shorter"].map(|size| format!("batch output {size}")));
     list
 }
@@ -125,7 +138,7 @@ pub fn count_files(batches: &[Vec<u8>]) -> Counts {
             counts.add(format!("{} bytes", bytes.len()));
         }
         for &table in &batch.tables {
-            let answer: Vec<String> = judge(table, DEPTH).lines().map(|line| line.to_string()).collect();
+            let answer: Vec<String> = judge(table, depth()).lines().map(|line| line.to_string()).collect();
             counts.count(&Question::Judge { table: table.to_vec() }, &answer);
         }
     }
@@ -139,6 +152,7 @@ pub fn required_of_files() -> Vec<String> {
     list.extend(["0 tables", "1 table", "several tables", "hundreds of tables"].map(|n| n.to_string()));
     list.extend(SIZES.map(|size| format!("{size} bytes")));
     list.extend((1..=8).map(|number| format!("judge refused {number}")));
+    list.extend(required_of_judged_bytes());
     list.extend(FINDINGS.map(|finding| format!("finding {finding}")));
     list.extend(["consistent", "inconsistent", "undefined"].map(|verdict| format!("verdict {verdict}")));
     list

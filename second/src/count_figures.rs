@@ -3,7 +3,7 @@
 use crate::count_batches::bytes_in;
 use crate::figures::{figures_of, text_of, Figures};
 use crate::read_figures::read_figures;
-use crate::relations::DEPTH;
+use crate::relations::depth;
 use crate::table::Refusal;
 
 /// What a question about figures reaches, by its answer.
@@ -28,7 +28,7 @@ pub fn reached_by_figures(batch: &[u8], output_size: usize, answer: &[String]) -
 
 /// A question that was refused 11, by what the second judge would have written.
 fn reached_by_refusal(batch: &[u8], output_size: usize) -> Vec<String> {
-    let figures = figures_of(batch, DEPTH);
+    let figures = figures_of(batch, depth());
     let output = match (output_size, text_of(&figures).len() - output_size) {
         (0, _) => "empty",
         (_, 1) => "one byte short",

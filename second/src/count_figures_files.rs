@@ -7,7 +7,7 @@ use crate::figures::{figures_of, Figures, TABLE_REFUSALS};
 use crate::figures_folder::Folder;
 use crate::findings::Verdict;
 use crate::joined::sums_are_due;
-use crate::relations::DEPTH;
+use crate::relations::depth;
 use crate::report::Report;
 use crate::table::{Refusal, MOST_RECORDS, RECORD_BYTES};
 use std::cmp::Ordering;
@@ -18,7 +18,7 @@ pub fn count_folder(folder: &Folder) -> Counts {
     let mut counts = Counts::default();
     let mut all = BTreeMap::new();
     for (name, bytes) in &folder.batches {
-        let figures = figures_of(bytes, DEPTH);
+        let figures = figures_of(bytes, depth());
         counts.add(ending(&figures));
         if let Ok(figures) = &figures {
             reached_by_batch(bytes, figures).into_iter().for_each(|what| counts.add(what));
@@ -50,7 +50,7 @@ fn reached_by_batch(bytes: &[u8], figures: &Figures) -> Vec<String> {
         reached.push(format!("{name} all different"));
     }
     let batch = read_batch(bytes);
-    let answers = batch.reports(DEPTH);
+    let answers = batch.reports(depth());
     reached.extend(answers.iter().flatten().flat_map(reached_by_report));
     reached.extend(reached_by_largest(figures, &batch.tables, &answers));
     reached

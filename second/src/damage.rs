@@ -9,7 +9,8 @@ pub fn damage(random: &mut Random, table: &[Bytes], number: u8, place: usize) ->
     for _ in 0..120 {
         let mut damaged = table.to_vec();
         damage_once(random, &mut damaged, number, place);
-        if read_table(&damaged.concat()) == Err(Refusal { number, place }) {
+        let is_meant = |refusal: Refusal| (refusal.number, refusal.place) == (number, place);
+        if read_table(&damaged.concat()).is_err_and(is_meant) {
             return Some(damaged);
         }
     }

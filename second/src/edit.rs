@@ -85,5 +85,5 @@ pub fn fetch_refusal(table: &[u8], asked: usize) -> Option<Refusal> {
         return Some(refusal);
     }
     let past = asked >= table.len() / RECORD_BYTES;
-    past.then_some(Refusal { number: 13, place: asked })
+    past.then_some(Refusal::at(13, asked))
 }

@@ -2,6 +2,7 @@
 
 use crate::relations::{matrix, Matrix, Relations};
 use crate::table::{Kind, Order, Record};
+use crate::wrong::{is_asked, Way};
 
 /// Their names, in the report's order.
 pub const FINDINGS: [&str; 7] = ["R", "A1", "A2", "A3", "A4", "A5", "W"];
@@ -111,8 +112,7 @@ pub fn racing_writes_stood_on(records: &[Record], rel: &Relations, read: usize) 
 /// "two different updates, not in conflict, have the same source". Two that read u from nothing took
 /// no token.
 fn took_one_token(records: &[Record], rel: &Relations, p: usize, q: usize) -> bool {
-    // The wrong build counts updates in conflict too.
-    let in_conflict = rel.cf[p][q] && !cfg!(feature = "wrong-updates");
+    let in_conflict = rel.cf[p][q] && !is_asked(Way::UpdatesInConflict);
     let both_updates = records[p].kind == Kind::Update && records[q].kind == Kind::Update;
     let one_source = records[p].source.is_some() && records[p].source == records[q].source;
     p != q && both_updates && one_source && !in_conflict

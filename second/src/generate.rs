@@ -1,6 +1,7 @@
 //! The generator: questions from a seed, E1 to E11 first.
 
 use crate::ask_batches::ask_batches;
+use crate::ask_bytes::ask_bytes;
 use crate::ask_figures::ask_figures;
 use crate::asking::{ask_append, ask_cut, ask_fetch, closed_selection, unsettle};
 use crate::builder::Builder;
@@ -16,7 +17,8 @@ use crate::random::Random;
 use crate::record::{init, store, Bytes};
 use crate::table::NONE;
 
-/// At least `count` tables to judge, and cuts, appends and fetches beside them; then batches and their figures.
+/// At least `count` tables to judge, and cuts, appends and fetches beside them; then batches and their figures;
+/// then damaged records.
 pub fn generate(seed: u64, count: usize) -> Vec<Question> {
     let mut random = Random::new(seed);
     let mut list: Vec<Question> = examples().into_iter().map(|e| judged(e.bytes)).collect();
@@ -38,6 +40,7 @@ pub fn generate(seed: u64, count: usize) -> Vec<Question> {
     }
     list.extend(ask_batches(seed));
     list.extend(ask_figures(seed));
+    list.extend(ask_bytes(seed));
     list
 }
 

@@ -1,6 +1,7 @@
 //! The second opinion: a judge of tables and batches written from the documents alone, with what the comparison needs.
 
 pub mod ask_batches;
+pub mod ask_bytes;
 pub mod ask_figures;
 pub mod asking;
 pub mod batch;
@@ -9,12 +10,16 @@ pub mod builder;
 pub mod compare;
 pub mod count;
 pub mod count_batches;
+pub mod count_bytes;
 pub mod count_figures;
 pub mod count_figures_files;
 pub mod count_updates;
 pub mod damage;
+pub mod damage_bytes;
+pub mod damage_events;
 pub mod edit;
 pub mod examples;
+pub mod faults;
 pub mod figures;
 pub mod figures_files;
 pub mod figures_folder;
@@ -35,4 +40,6 @@ pub mod sc_gadgets;
 pub mod table;
 pub mod text;
 pub mod update_gadgets;
+pub mod wrong;
+pub mod wrong_bytes;
 pub mod wrong_figures;

@@ -32,7 +32,7 @@ fn number_after(line: &str, name: &str) -> Option<usize> {
 fn read_refusal(line: &str) -> Option<Refusal> {
     let words: Vec<&str> = line.split(' ').collect();
     let ["refused", number, "at", place] = words[..] else { return None };
-    Some(Refusal { number: number.parse().ok()?, place: place.parse().ok()? })
+    Some(Refusal::at(number.parse().ok()?, place.parse().ok()?))
 }
 
 /// The figures with these numbers, in the order of the lines.

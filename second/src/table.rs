@@ -1,4 +1,10 @@
-//! Reading a table: the sixteen bytes of a record, and refusals 1 to 8.
+//! Reading a table: the sixteen bytes of a record, and what is told of a refusal.
+
+use crate::faults::{
+    kind_or_order_fault, mark_fault, parent_or_thread_fault, range_fault, rest_fault, sibling_fault,
+    source_fault,
+};
+use crate::wrong_bytes::as_built;
 
 pub const RECORD_BYTES: usize = 16;
 pub const MOST_RECORDS: usize = 64;
@@ -70,15 +76,29 @@ impl Record {
     }
 }
 
-/// A refusal: its number and its place.
+/// A refusal: its number, its place, and the byte within its record that a record's refusal (2 to 8) names.
 #[derive(Clone, Copy, Debug, PartialEq, Eq)]
 pub struct Refusal {
     pub number: u8,
     pub place: usize,
+    pub byte: Option<usize>,
 }
 
+impl Refusal {
+    /// "Refusals from elsewhere in document 01 and 14, 15 name no byte."
+    pub fn at(number: u8, place: usize) -> Refusal {
+        Refusal { number, place, byte: None }
+    }
+
+    /// "A record's refusal should name the byte too".
+    pub fn at_byte(number: u8, place: usize, byte: usize) -> Refusal {
+        Refusal { number, place, byte: Some(byte) }
+    }
+}
+
+/// A refusal that names no byte.
 pub fn refuse<T>(number: u8, place: usize) -> Result<T, Refusal> {
-    Err(Refusal { number, place })
+    Err(as_built(Refusal::at(number, place), &[]))
 }
 
 /// Refusal 1: "length 0, not a multiple of 16, or above 1,024".
@@ -98,10 +118,8 @@ pub fn read_table(bytes: &[u8]) -> Result<Vec<Record>, Refusal> {
 /// "Records are tested from 0 upward, numbers 2 to 8 in order within one; the first fault is the answer."
 pub fn read_records(bytes: &[u8]) -> Result<Vec<Record>, Refusal> {
     let mut records = Vec::new();
-    for (number, record) in bytes.chunks(RECORD_BYTES).enumerate() {
-        if mark_is_wrong(record) {
-            return refuse(2, number);
-        }
+    for (place, record) in bytes.chunks(RECORD_BYTES).enumerate() {
+        test_record(record, place, 2, mark_fault(record))?;
         records.push(read_after_mark(record, &records)?);
     }
     Ok(records)
@@ -109,67 +127,23 @@ pub fn read_records(bytes: &[u8]) -> Result<Vec<Record>, Refusal> {
 
 /// One record by tests 3 to 8, standing next after the earlier ones (an append leaves test 2 out).
 pub fn read_after_mark(bytes: &[u8], earlier: &[Record]) -> Result<Record, Refusal> {
-    let place = earlier.len();
-    if kind_or_order_is_wrong(bytes) {
-        return refuse(3, place);
-    }
-    if rest_is_broken(bytes) {
-        return refuse(4, place);
-    }
-    if out_of_range(bytes) {
-        return refuse(5, place);
-    }
+    let test = |number, fault| test_record(bytes, earlier.len(), number, fault);
+    test(3, kind_or_order_fault(bytes))?;
+    test(4, rest_fault(bytes))?;
+    test(5, range_fault(bytes))?;
     let record = decode(bytes);
-    if parent_or_thread_is_wrong(&record, earlier) {
-        return refuse(6, place);
-    }
-    if source_is_wrong(&record, earlier) {
-        return refuse(7, place);
-    }
-    if sibling_is_wrong(&record, earlier) {
-        return refuse(8, place);
-    }
+    test(6, parent_or_thread_fault(&record, earlier))?;
+    test(7, source_fault(&record, earlier))?;
+    test(8, sibling_fault(&record, earlier))?;
     Ok(record)
 }
 
-fn mark_is_wrong(bytes: &[u8]) -> bool {
-    bytes[0] != 0x45 || bytes[1] != 0x56
-}
-
-/// "Init NA; load NA, ACQ, SC; store NA, REL, SC; update AR, SC."
-fn kind_or_order_is_wrong(bytes: &[u8]) -> bool {
-    let allowed: &[u8] = match bytes[2] {
-        0 => &[0],
-        1 => &[0, 1, 4],
-        2 => &[0, 2, 4],
-        3 => &[3, 4],
-        _ => return true,
-    };
-    !allowed.contains(&bytes[3])
-}
-
-/// "byte 8 above 3, or a field that should rest doesn't"
-fn rest_is_broken(bytes: &[u8]) -> bool {
-    let read_number = u16::from_le_bytes([bytes[10], bytes[11]]);
-    let written_number = u16::from_le_bytes([bytes[12], bytes[13]]);
-    let read_is_u = bytes[8] & 1 != 0;
-    let written_is_u = bytes[8] & 2 != 0;
-    let has_read = bytes[2] == 1 || bytes[2] == 3;
-    let has_write = bytes[2] == 2 || bytes[2] == 3;
-    let has_location = bytes[2] != 0;
-    bytes[8] > 3
-        || bytes[9] != 0
-        || bytes[14] != 0
-        || bytes[15] != 0
-        || (!has_location && bytes[7] != 0)
-        || (!has_read && (bytes[6] != NONE || read_is_u || read_number != 0))
-        || (!has_write && (written_is_u || written_number != 0))
-        || (read_is_u && read_number != 0)
-        || (written_is_u && written_number != 0)
-}
-
-fn out_of_range(bytes: &[u8]) -> bool {
-    bytes[4] > 15 || bytes[7] > 31
+/// The refusal of this number at the record, if the test of that number found a byte to name.
+fn test_record(bytes: &[u8], place: usize, number: u8, fault: Option<usize>) -> Result<(), Refusal> {
+    match fault {
+        None => Ok(()),
+        Some(byte) => Err(as_built(Refusal::at_byte(number, place, byte), bytes)),
+    }
 }
 
 /// The sixteen bytes as an event, once tests 3 to 5 have passed.
@@ -200,57 +174,4 @@ fn value(is_u: bool, low: u8, high: u8) -> Value {
     } else {
         Value::Known(u16::from_le_bytes([low, high]))
     }
-}
-
-/// Refusal 6: "record 0 is not an Init of thread 0 without parent; another record has no parent,
-/// or one not earlier; a non-Init has another thread than its parent; an Init's thread has stood
-/// in an earlier record".
-fn parent_or_thread_is_wrong(record: &Record, earlier: &[Record]) -> bool {
-    let is_init = record.kind == Kind::Init;
-    if earlier.is_empty() {
-        return !is_init || record.thread != 0 || record.parent.is_some();
-    }
-    let parent = match record.parent {
-        None => return true,
-        Some(number) if number >= earlier.len() => return true,
-        Some(number) => &earlier[number],
-    };
-    if is_init {
-        earlier.iter().any(|other| other.thread == record.thread)
-    } else {
-        parent.thread != record.thread
-    }
-}
-
-/// Refusal 7: "the source is not an earlier write of the same location; a known value written
-/// differs from the value read and that isn't u; u was written and a known value read; no source,
-/// and the value read is known".
-fn source_is_wrong(record: &Record, earlier: &[Record]) -> bool {
-    let read = match record.read {
-        None => return false,
-        Some(read) => read,
-    };
-    let source = match record.source {
-        None => return read != Value::U,
-        Some(number) if number >= earlier.len() => return true,
-        Some(number) => &earlier[number],
-    };
-    if !source.is_write() || !source.shares_location(record) {
-        return true;
-    }
-    match (source.written, read) {
-        (_, Value::U) => false,
-        (written, known) => written != Some(known),
-    }
-}
-
-/// Refusal 8: "an earlier record has the same parent and thread, and the two are not both reads of
-/// one location with different read values (u differs from every number)".
-fn sibling_is_wrong(record: &Record, earlier: &[Record]) -> bool {
-    earlier.iter().any(|other| {
-        let siblings = other.parent == record.parent && other.thread == record.thread;
-        let branch =
-            other.is_read() && record.is_read() && other.shares_location(record) && other.read != record.read;
-        siblings && !branch
-    })
 }

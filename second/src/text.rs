@@ -9,9 +9,13 @@ pub fn judge(bytes: &[u8], depth: usize) -> String {
     report_on(bytes, depth).map_or_else(refusal_line, report_lines)
 }
 
-/// "A refused table gives one line, as `refused 6 at 3`."
-pub fn refusal_line(refusal: Refusal) -> String {
-    format!("refused {} at {}\n", refusal.number, refusal.place)
+/// "A refused table gives one line"; a record's refusal names its byte too, as `refused 4 at 17 byte 9`, and
+/// the others are as they were, as `refused 1 at 0`.
+pub fn refusal_line(Refusal { number, place, byte }: Refusal) -> String {
+    match byte {
+        Some(byte) => format!("refused {number} at {place} byte {byte}\n"),
+        None => format!("refused {number} at {place}\n"),
+    }
 }
 
 fn report_lines(Report { events, findings }: Report) -> String {

@@ -1,24 +1,32 @@
-//! Figures that are wrong on purpose, each way by its name: the comparison must find them (feature `wrong-figures`).
+//! Figures that are wrong on purpose, in the ways of `wrong` that are about them.
 
 use crate::batch::read_batch;
 use crate::figures::{figures_of, Figures};
 use crate::findings::Verdict;
 use crate::report::Report;
 use crate::table::{Refusal, RECORD_BYTES};
+use crate::wrong::{asked, Way};
 
-/// The figures wrong in this way, or nothing if no way has the name.
-pub fn wrong_figures(bytes: &[u8], depth: usize, way: &str) -> Option<Result<Figures, Refusal>> {
+/// The figures as this build tells them: as they are, or wrong in the way that was asked for.
+pub fn figures_as_built(bytes: &[u8], depth: usize) -> Result<Figures, Refusal> {
+    match asked() {
+        None => figures_of(bytes, depth),
+        Some(way) => wrong_figures(bytes, depth, way),
+    }
+}
+
+/// The figures wrong in this way, where the way makes a difference.
+pub fn wrong_figures(bytes: &[u8], depth: usize, way: Way) -> Result<Figures, Refusal> {
+    let right = figures_of(bytes, depth)?;
     let spoil = match way {
-        "largest-of-refused" => largest_of_refused,
-        "one-finding" => one_finding,
-        "ending-counted" => ending_counted,
-        "wrong-verdict" => wrong_verdict,
-        _ => return None,
+        Way::LargestOfRefused => largest_of_refused,
+        Way::OneFinding => one_finding,
+        Way::EndingCounted => ending_counted,
+        Way::WrongVerdict => wrong_verdict,
+        _ => return Ok(right),
     };
-    Some(figures_of(bytes, depth).map(|right| {
-        let batch = read_batch(bytes);
-        spoil(right, &batch.tables, &batch.reports(depth))
-    }))
+    let batch = read_batch(bytes);
+    Ok(spoil(right, &batch.tables, &batch.reports(depth)))
 }
 
 /// The largest table is looked for among the refused ones too.

@@ -1,5 +1,4 @@
 //! Batches, against what request W1 says of them: the reading, the program's text, the one call, what is generated.
-#![cfg(not(any(feature = "wrong", feature = "wrong-batch")))]
 
 use second::batch::{answer_batch, batch_text, read_batch, Answered};
 use second::batch_files::batch_files;
@@ -19,7 +18,7 @@ fn alone(name: &str) -> String {
 }
 
 fn refusal(number: u8, place: usize) -> Option<Refusal> {
-    Some(Refusal { number, place })
+    Some(Refusal::at(number, place))
 }
 
 #[test]
@@ -40,7 +39,7 @@ fn each_answer_is_the_one_that_the_table_gets_alone() {
     assert_eq!(text(&pack(&tables)), reports);
     let odd =
         [example("E1"), vec![], example("E3")[..17].to_vec(), vec![0; 1040], vec![0; 16], example("E5")];
-    let refusals = "refused 1 at 0\nrefused 1 at 0\nrefused 1 at 0\nrefused 2 at 0\n";
+    let refusals = "refused 1 at 0\nrefused 1 at 0\nrefused 1 at 0\nrefused 2 at 0 byte 0\n";
     assert_eq!(text(&pack(&odd)), alone("E1") + refusals + &alone("E5"));
 }
 
@@ -121,7 +120,7 @@ fn the_call_refuses_11_by_what_it_would_write() {
         for room in [0, 1, size - 1] {
             let mut output = vec![0xa5; room];
             let answer = answer_batch(&[&good[..], end].concat(), &mut output, usize::MAX);
-            assert_eq!(answer, Err(Refusal { number: 11, place: 0 }));
+            assert_eq!(answer, Err(Refusal::at(11, 0)));
             assert!(output.iter().all(|&byte| byte == 0xa5));
         }
     }
@@ -165,5 +164,8 @@ fn the_files_of_several_seeds_miss_nothing() {
 fn the_night_ends_as_its_readme_says() {
     let batch = night();
     let reports: String = examples().iter().map(|e| alone(e.name)).collect();
-    assert_eq!(text(&batch.bytes), reports + &format!("refused 6 at 4\nrefused 14 at {}\n", batch.ends_at));
+    assert_eq!(
+        text(&batch.bytes),
+        reports + &format!("refused 6 at 4 byte 5\nrefused 14 at {}\n", batch.ends_at)
+    );
 }

@@ -1,5 +1,4 @@
 //! The comparison finds a judge that is wrong on purpose, and the questions reach all that it should.
-#![cfg(not(any(feature = "wrong", feature = "wrong-batch", feature = "wrong-updates")))]
 
 use second::compare::differences;
 use second::count::Counts;

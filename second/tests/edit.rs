@@ -1,5 +1,4 @@
 //! Cut, append, fetch and the questions, against what document 01 says of them.
-#![cfg(not(feature = "wrong"))]
 
 use second::edit::{append, cut, fetch, fetch_refusal};
 use second::examples::{example, examples};
@@ -16,7 +15,7 @@ fn cut_of(name: &str, kept: &[u32], output: &mut [u8]) -> Result<usize, Refusal>
 }
 
 fn refusal(number: u8, place: usize) -> Refusal {
-    Refusal { number, place }
+    Refusal::at(number, place)
 }
 
 #[test]
@@ -63,11 +62,11 @@ fn appends_build_e2_from_nothing() {
 #[test]
 fn appends_that_are_refused() {
     let mut buffer = [0u8; 48];
-    assert_eq!(append(&mut buffer, 0, &store(0, 0, 0, 0, 1)), Err(refusal(6, 0)));
-    assert_eq!(append(&mut buffer, 1, &init(0, NONE)), Err(refusal(2, 0)));
+    assert_eq!(append(&mut buffer, 0, &store(0, 0, 0, 0, 1)), Err(Refusal::at_byte(6, 0, 5)));
+    assert_eq!(append(&mut buffer, 1, &init(0, NONE)), Err(Refusal::at_byte(2, 0, 0)));
     assert_eq!(append(&mut buffer, 0, &init(0, NONE)), Ok(1));
-    assert_eq!(append(&mut buffer, 1, &store(1, 0, 0, 0, 1)), Err(refusal(3, 1)));
-    assert_eq!(append(&mut buffer, 1, &load(0, 0, 0, 255, 0, 1)), Err(refusal(7, 1)));
+    assert_eq!(append(&mut buffer, 1, &store(1, 0, 0, 0, 1)), Err(Refusal::at_byte(3, 1, 3)));
+    assert_eq!(append(&mut buffer, 1, &load(0, 0, 0, 255, 0, 1)), Err(Refusal::at_byte(7, 1, 6)));
     let mut full = init(0, NONE).to_vec();
     for n in 0..63 {
         full.extend(store(0, 0, n, 0, 1));

@@ -1,5 +1,4 @@
 //! Figures, against what request W3 says of them: counted by hand, endings, sums, the one call, what is generated.
-#![cfg(not(any(feature = "wrong", feature = "wrong-batch", feature = "wrong-updates")))]
 
 use second::count_figures_files::{count_folder, required_of_folder};
 use second::examples::{example, night};
@@ -12,6 +11,7 @@ use second::questions::{all_questions, split_answers, Question};
 use second::read_figures::{joined_text, read_figures};
 use second::table::Refusal;
 use second::text::hex;
+use second::wrong::Way;
 use second::wrong_figures::wrong_figures;
 
 fn text(batch: &[u8]) -> String {
@@ -23,7 +23,7 @@ fn figures(batch: &[u8]) -> Figures {
 }
 
 fn refusal(number: u8, place: usize) -> Option<Refusal> {
-    Some(Refusal { number, place })
+    Some(Refusal::at(number, place))
 }
 
 /// E2 has A2; E5 has W; E1 and E4 have nothing; the others are refused with 1, 1, 2 and 6.
@@ -133,7 +133,7 @@ fn texts_that_do_not_add_up_are_found() {
 #[test]
 fn only_the_text_of_figures_is_read_back() {
     assert_eq!(read_figures(EIGHT_TABLES), Some(Ok(figures(&eight_tables()))));
-    assert_eq!(read_figures("refused 1 at 0\n"), Some(Err(Refusal { number: 1, place: 0 })));
+    assert_eq!(read_figures("refused 1 at 0\n"), Some(Err(Refusal::at(1, 0))));
     let ended = format!("{EIGHT_TABLES}refused 14 at 20\n");
     assert_eq!(read_figures(&ended).unwrap().unwrap().ended, refusal(14, 20));
     let others = [
@@ -165,7 +165,7 @@ fn the_call_writes_the_text_or_refuses_11() {
         for room in [0, due.len() - 1] {
             let mut output = vec![0xa5; room];
             let answer = write_figures(&batch, &mut output, usize::MAX);
-            assert_eq!(answer, Err(Refusal { number: 11, place: 0 }));
+            assert_eq!(answer, Err(Refusal::at(11, 0)));
             assert!(output.iter().all(|&byte| byte == 0xa5));
         }
     }
@@ -205,14 +205,14 @@ fn each_wrong_way_is_wrong_and_not_everywhere() {
     let right = "A5 0\nW 2\nconsistent 2\ninconsistent 1\nundefined 2\nlargest 9\n";
     assert!(text(&batch).starts_with("tables 9\n") && text(&batch).contains(right));
     let ways = [
-        ("largest-of-refused", "largest 65\n"),
-        ("one-finding", "W 1\n"),
-        ("ending-counted", "tables 10\n"),
-        ("wrong-verdict", "inconsistent 3\nundefined 0\n"),
+        (Way::LargestOfRefused, "largest 65\n"),
+        (Way::OneFinding, "W 1\n"),
+        (Way::EndingCounted, "tables 10\n"),
+        (Way::WrongVerdict, "inconsistent 3\nundefined 0\n"),
     ];
     for (way, wrong) in ways {
-        assert!(text_of(&wrong_figures(&batch, usize::MAX, way).expect("a way")).contains(wrong), "{way}");
-        assert_eq!(wrong_figures(&[], usize::MAX, way), Some(figures_of(&[], usize::MAX)));
+        assert!(text_of(&wrong_figures(&batch, usize::MAX, way)).contains(wrong), "{way:?}");
+        assert_eq!(wrong_figures(&[], usize::MAX, way), figures_of(&[], usize::MAX));
     }
-    assert_eq!(wrong_figures(&[], usize::MAX, "another"), None);
+    assert_eq!(wrong_figures(&batch, usize::MAX, Way::ByteOfTable), figures_of(&batch, usize::MAX));
 }

@@ -1,5 +1,4 @@
 //! The generator's patterns hold the findings that they are made for.
-#![cfg(not(any(feature = "wrong", feature = "wrong-updates")))]
 
 use second::builder::Builder;
 use second::gadgets::{

@@ -24,7 +24,7 @@ fn main() -> std::io::Result<()> {
     let night = night();
     fs::write(Path::new(folder).join("night.batch"), &night.bytes)?;
     readme += &format!(
-        "- `night.batch`: E1 to E11, then E2 with record 4 as its own parent (`refused 6 at 4`), then a table \
+        "- `night.batch`: E1 to E11, then E2 with record 4 as its own parent (`refused 6 at 4 byte 5`), then a table \
          without its header, which ends the batch with `refused 14 at {}`.\n",
         night.ends_at
     );

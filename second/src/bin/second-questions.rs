@@ -10,9 +10,10 @@ fn main() -> io::Result<()> {
         eprintln!("{why}");
         exit(2)
     });
+    let depth = second::relations::depth();
     let mut output = BufWriter::new(io::stdout().lock());
     for question in questions {
-        output.write_all(question.answer(second::relations::DEPTH).as_bytes())?;
+        output.write_all(question.answer(depth).as_bytes())?;
     }
     output.flush()
 }

@@ -1,0 +1,83 @@
+//! The ways in which a build with the feature `wrong` can be wrong on purpose, for the comparisons to find: what each
+//! does, its name, and which was asked for.
+
+use std::ffi::OsStr;
+use std::process::exit;
+use std::sync::LazyLock;
+
+/// The variable that names the way; unset, the build is right.
+const VARIABLE: &str = "WRONG";
+
+#[derive(Clone, Copy, Debug, PartialEq, Eq)]
+pub enum Way {
+    /// The judge follows happens-before only ten steps deep.
+    TenSteps,
+    /// The judge shows A5 at updates in conflict too.
+    UpdatesInConflict,
+    /// The reader of batches asks for the mark first, even where the header is too short.
+    MarkOfShortHeader,
+    /// Figures: the largest table is looked for among the refused ones too.
+    LargestOfRefused,
+    /// Figures: a table counts for its first finding only.
+    OneFinding,
+    /// Figures: what ended the batch counts as one more table.
+    EndingCounted,
+    /// Figures: an undefined table counts as inconsistent.
+    WrongVerdict,
+    /// A refusal names the first byte of the field at fault, in place of the least byte that is itself wrong.
+    FirstOfField,
+    /// A refusal names the location's byte for a thread.
+    ThreadAsLocation,
+    /// A refusal names a byte for a wrong length, where none is named.
+    ByteOfLength,
+    /// A refusal names the byte within the table, in place of that within the record.
+    ByteOfTable,
+    /// A refusal names the second byte of a mark of which only that is wrong.
+    SecondOfMark,
+}
+
+/// Each way and its name.
+pub const WAYS: [(&str, Way); 12] = [
+    ("ten-steps", Way::TenSteps),
+    ("updates-in-conflict", Way::UpdatesInConflict),
+    ("mark-of-short-header", Way::MarkOfShortHeader),
+    ("largest-of-refused", Way::LargestOfRefused),
+    ("one-finding", Way::OneFinding),
+    ("ending-counted", Way::EndingCounted),
+    ("wrong-verdict", Way::WrongVerdict),
+    ("first-of-field", Way::FirstOfField),
+    ("thread-as-location", Way::ThreadAsLocation),
+    ("byte-of-length", Way::ByteOfLength),
+    ("byte-of-table", Way::ByteOfTable),
+    ("second-of-mark", Way::SecondOfMark),
+];
+
+/// The way that was asked for; never one in a build without the feature.
+pub fn asked() -> Option<Way> {
+    static ASKED: LazyLock<Option<Way>> = LazyLock::new(read_variable);
+    if cfg!(feature = "wrong") {
+        *ASKED
+    } else {
+        None
+    }
+}
+
+/// Whether this way was asked for.
+pub fn is_asked(way: Way) -> bool {
+    asked() == Some(way)
+}
+
+/// The way that has this name, if one has.
+pub fn way_named(name: &OsStr) -> Option<Way> {
+    WAYS.iter().find(|(known, _)| name == *known).map(|(_, way)| *way)
+}
+
+fn read_variable() -> Option<Way> {
+    let name = std::env::var_os(VARIABLE)?;
+    let way = way_named(&name);
+    if way.is_none() {
+        eprintln!("{VARIABLE}={name:?} names no way to be wrong");
+        exit(2)
+    }
+    way
+}
