@@ -28,11 +28,12 @@ pub flags-above-3 : decode (load 4 0 0) ≡ Bad (Rest 8)
 unfolding inRow leastRestless decidedBy decode
 flags-above-3 = refl
 
--- "for 2 byte 0 (also where only byte 1 is wrong)": `Mark` names byte 0
+-- any record whose values and flags are 0
 abbrev headed : ℕ → ℕ → ℕ → ℕ → ℕ → ℕ → List ℕ
 headed first second kind order thread location =
     first ∷ second ∷ kind ∷ order ∷ thread ∷ 0 ∷ 255 ∷ location ∷ 0 ∷ 0 ∷ 0 ∷ 0 ∷ 0 ∷ 0 ∷ 0 ∷ 0 ∷ []
 
+-- "for 2 byte 0 (also where only byte 1 is wrong)": `Mark` names byte 0
 pub second-byte-of-the-mark : decode (headed 0x45 0x57 2 0 0 0) ≡ Bad Mark
 unfolding inRow leastRestless decidedBy decode
 second-byte-of-the-mark = refl

@@ -21,7 +21,8 @@ use Rattle.record.proofs.AtFault.{restless, least-at-fault}
 use Rattle.record.proofs.BytesBack.{kind-below}
 use Rattle.record.proofs.Tests.{says-marked, says-rested}
 
-is-true : {t : Bool} {P : Type 0} → Says t P → P → t ≡ true
+-- a test by the fact that it tells
+pub is-true : {t : Bool} {P : Type 0} → Says t P → P → t ≡ true
 is-true s p = says-one s (says-yes p)
 
 is-false : {t : Bool} {P : Type 0} → Says t P → ¬ P → t ≡ false

@@ -1,6 +1,6 @@
 -- A record that fits, written and read back, is the same record.
 use mathlib.Core.Path.{_≡_, refl, ap}
-use mathlib.Core.Bool.{Bool, true, false}
+use mathlib.Core.Bool.{true}
 use Prim.Native.Nat.{ℕ, _+_, _*_, _/_, _%_, _<_}
 use native.Mathlib.Omega.{arith}
 use lib.Dec.{T}
@@ -15,11 +15,13 @@ use Rattle.events.specs.declared.Link.{Link}
 use Rattle.events.specs.declared.Link.the-variants.{Absent, To}
 use Rattle.events.specs.declared.Record.{Record}
 use Rattle.events.specs.Words.{codeOf, isRead}
+use Rattle.laws.proofs.Says.{says-T}
 use Rattle.record.specs.declared.written.Columns.{Columns}
 use Rattle.record.specs.declared.Decoded.the-variants.{Good}
 use Rattle.record.specs.Form.{orderFrom, linkFrom, linkByte, word, readU, writtenU, valueFrom, eventFrom, numberOf, flagsOf, inRow, rested, decidedBy, decode, columnsOf, bytesBy, encode}
 use Rattle.record.specs.Fits.{Fits}
 use Rattle.record.proofs.BytesBack.{kind-below}
+use Rattle.record.proofs.Exact.{is-true}
 
 order-back : (o : Order) → orderFrom (codeOf o) ≡ o
 unfolding orderFrom
@@ -72,10 +74,6 @@ rested-back t p s (Update o x U (Known n)) h = refl
 rested-back t p s (Update o x (Known m) U) h = refl
 rested-back t p s (Update o x (Known m) (Known n)) h = refl
 
-is-true : (b : Bool) → T b → b ≡ true
-is-true true h = refl
-is-true false h = absurd h
-
 fits-apart : {l : Link} → ((n : ℕ) → l ≡ To n → n < 255) → ¬ (l ≡ To 255)
 fits-apart h e =
     let small = h 255 e in
@@ -87,7 +85,7 @@ decode-encode r h =
     let f = columnsOf (r .event) in
     simp (
       le-leb (f .kind) 3 (omega (arith, kind-below (f .kind) (codeOf (f .order)) (h .row))),
-      is-true (inRow (f .kind) (codeOf (f .order))) (h .row),
+      is-true (says-T (inRow (f .kind) (codeOf (f .order)))) (h .row),
       rested-back (r .thread) (r .parent) (r .source) (r .event) (h .only-reads),
       le-leb _ _ (h .thread),
       le-leb _ _ (h .location),

@@ -2,7 +2,7 @@
 ghost use mathlib.Core.Path.{_≡_};
 ghost use Rattle.refusals.specs.Numbers.{faultNumber, faultByte, at, ofRecord, told};
 
-// What is wrong with a record: refusals 2 to 8, a case for each byte that is named; at `Rest` it is the least byte at fault.
+// What is wrong with a record: refusals 2 to 8. Where a number names one of two bytes it has a case for each; `Rest` holds the least byte at fault.
 pub enum Fault {
     Mark,
     Kind,
