@@ -2,7 +2,6 @@
 pub mod NewRecord
 pub mod OneAppend
 pub mod Building
-pub mod Bits
 pub mod NewNumbers
 pub mod KeptBytes
 pub mod RecordLinks

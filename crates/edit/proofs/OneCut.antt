@@ -9,6 +9,7 @@ use lib.ListN.{length}
 use Rattle.refusals.specs.declared.Refusal.{Refusal}
 use Rattle.refusals.specs.Numbers.{at}
 use Rattle.refusals.proofs.Known.{same-refusal}
+use Rattle.selections.specs.Selection.{named, Refused9}
 use Rattle.laws.specs.Least.{LeastNumber}
 use Rattle.laws.proofs.Least.{number-unique}
 use Rattle.model.specs.Cut.{newNumber}
@@ -18,7 +19,6 @@ use Rattle.table.specs.Test.{TestAnswer}
 use Rattle.table.proofs.Unique.{test-one}
 use Rattle.edit.specs.declared.cutting.CutDown.{CutDown}
 use Rattle.edit.specs.declared.cutting.CutDown.the-variants.{Refused, Kept}
-use Rattle.edit.specs.Selection.{Refused9}
 use Rattle.edit.specs.Cut.{Lacking, Selected, Whole, Decides, bad-table, bad-selection, lacking, no-room, good, bytesAfter, CutAnswer}
 use Rattle.edit.proofs.OneAppend.{refused-inside}
 
@@ -37,23 +37,23 @@ module _ {b : List ℕ} where
   one-count : {m n : ℕ} → TestAnswer b (tested.Sound m) → TestAnswer b (tested.Sound n) → m ≡ n
   one-count x y = sound-inside (test-one x y)
 
-module _ {b : List ℕ} {k : ℕ → Bool} where
-  not-selected : {A : Type 0} {m n : ℕ} → TestAnswer b (tested.Sound m) → Refused9 k m → Selected b k n → A
-  not-selected x z s = absurd (s .not-9 (subst (Refused9 k) (one-count x (s .sound)) z))
+module _ {b s : List ℕ} where
+  not-selected : {A : Type 0} {m n : ℕ} → TestAnswer b (tested.Sound m) → Refused9 s m → Selected b s n → A
+  not-selected x z fine = absurd (fine .not-9 (subst (Refused9 s) (one-count x (fine .sound)) z))
 
-  not-whole : {A : Type 0} {m n : ℕ} → LeastNumber (Lacking k (eventsOf b)) (some m) → Whole b k n → A
+  not-whole : {A : Type 0} {m n : ℕ} → LeastNumber (Lacking (named s) (eventsOf b)) (some m) → Whole b s n → A
   not-whole x w =
       let e = number-unique x (w .not-10) in
       absurd (let z : _≡_ {A = ℕ} 0 1 = cc in omega arith)
 
   short :
-      {A : Type 0} {m n : ℕ} (before : List ℕ) → Whole b k m → Whole b k n → ¬ (16 * newNumber k m ≤ length before) → 16 * newNumber k n ≤ length before → A
+      {A : Type 0} {m n : ℕ} (before : List ℕ) → Whole b s m → Whole b s n → ¬ (16 * newNumber (named s) m ≤ length before) → 16 * newNumber (named s) n ≤ length before → A
   short before v w tight l =
-      let e = ap (newNumber k) (one-count (v .selected .sound) (w .selected .sound)) in
+      let e = ap (newNumber (named s)) (one-count (v .selected .sound) (w .selected .sound)) in
       absurd (tight (omega arith))
 
   module _ {before : List ℕ} where
-    decides-one : {x y : CutDown} → Decides b k before x → Decides b k before y → x ≡ y
+    decides-one : {x y : CutDown} → Decides b s before x → Decides b s before y → x ≡ y
     decides-one (bad-table x) (bad-table y) = ap Refused (refused-inside (test-one x y))
     decides-one (bad-table x) (bad-selection y _ _) = not-sound y x
     decides-one (bad-table x) (lacking y _ _) = not-sound (y .sound) x
@@ -78,10 +78,10 @@ module _ {b : List ℕ} {k : ℕ → Bool} where
     decides-one (good x _) (bad-selection y z _) = not-selected y z (x .selected)
     decides-one (good x _) (lacking _ y _) = not-whole y x
     decides-one (good x l) (no-room y tight _) = short before y x tight l
-    decides-one (good x _) (good y _) = ap (λ (n : ℕ). Kept (newNumber k n)) (one-count (x .selected .sound) (y .selected .sound))
+    decides-one (good x _) (good y _) = ap (λ (n : ℕ). Kept (newNumber (named s) n)) (one-count (x .selected .sound) (y .selected .sound))
 
     pub cut-one :
-        {after after′ : List ℕ} {x y : CutDown} → CutAnswer b k before after x → CutAnswer b k before after′ y → (x ≡ y) × (after ≡ after′)
+        {after after′ : List ℕ} {x y : CutDown} → CutAnswer b s before after x → CutAnswer b s before after′ y → (x ≡ y) × (after ≡ after′)
     cut-one p q =
         let same = decides-one (p .decided) (q .decided) in
-        (same, p .bytes ∙ (ap (bytesAfter b k before) same ∙ sym (q .bytes)))
+        (same, p .bytes ∙ (ap (bytesAfter b s before) same ∙ sym (q .bytes)))

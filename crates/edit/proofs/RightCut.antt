@@ -11,6 +11,7 @@ use lib.ListN.{length, take, drop}
 use lib.Seq.{take-at}
 use Rattle.laws.specs.Least.{Least, LeastNumber}
 use Rattle.laws.proofs.Says.{by-dec, says-T, says-dec, says-lt, says-and, says-any, says-any-below, says-iff}
+use Rattle.selections.specs.Selection.{named, Refused9, empty, past-count}
 use Rattle.record.specs.declared.Decoded.the-variants.{Good}
 use Rattle.record.specs.Form.{parentByte, sourceByte, decode, part}
 use Rattle.events.specs.Words.{isWrite}
@@ -32,7 +33,6 @@ use Rattle.facts.specs.Sound.{SoundTable}
 use Rattle.facts.proofs.Promise.{sound-table}
 use Rattle.edit.specs.declared.cutting.CutDown.{CutDown}
 use Rattle.edit.specs.declared.cutting.CutDown.the-variants.{Refused, Kept}
-use Rattle.edit.specs.Selection.{Refused9, empty, past-count}
 use Rattle.edit.specs.Cut.{keptBytes, RaceKept, Lacking, Whole, Decides, bad-table, bad-selection, lacking, no-room, good, CutAnswer, RightCut}
 use Rattle.edit.proofs.KeptBytes.{kept-length, kept-part}
 use Rattle.edit.proofs.RecordLinks.{earlier}
@@ -40,17 +40,17 @@ use Rattle.edit.proofs.Relinked.{decode-renumbered}
 
 -- ---- a selection that is not refused
 
-module _ (k : ℕ → Bool) (t : Table) (W : WellFormed t) where
-  some-kept : ¬ Refused9 k (t .count) → (n : ℕ) × (Inside t n × T (k n))
-  some-kept fine = by-dec (says-dec (says-any-below (λ i _. says-T (k i)))) none-kept
-    where
-      none-kept : ¬ ((n : ℕ) × (Inside t n × T (k n))) → ⊥
-      none-kept not = fine (empty (λ n is. place n is (decLt n (t .count))))
-        where
-          place : (n : ℕ) → T (k n) → Dec (n < t .count) → ⊥
-          place n is (yes h) = not (n, (h, is))
-          place n is (no h) = fine (past-count {n = n} (omega arith) is)
+some-named : {s : List ℕ} {count : ℕ} → ¬ Refused9 s count → (n : ℕ) × ((n < count) × T (named s n))
+some-named {s} {count} fine = by-dec (says-dec (says-any-below (λ i _. says-T (named s i)))) none-named
+  where
+    none-named : ¬ ((n : ℕ) × ((n < count) × T (named s n))) → ⊥
+    none-named not = fine (empty (λ n is. place n is (decLt n count)))
+      where
+        place : (n : ℕ) → T (named s n) → Dec (n < count) → ⊥
+        place n is (yes h) = not (n, (h, is))
+        place n is (no h) = fine (past-count {n = n} (omega arith) is)
 
+module _ (k : ℕ → Bool) (t : Table) (W : WellFormed t) where
   -- a record that lacks nothing has its parent, its source and its racing write
   nothing-lacked : (n : ℕ) → Inside t n → T (k n) → ¬ Lacking k t n → Complete k t n
   nothing-lacked n h is fine = record {
@@ -68,8 +68,8 @@ module _ (k : ℕ → Bool) (t : Table) (W : WellFormed t) where
           (says-iff (λ (e, (write, race)). record { earlier = e; write = write; race = race }) (λ r. (r .earlier, (r .write, r .race)))
           (says-and (says-lt w n) (says-and (says-T (isWrite (t .at w .event))) (race-told W .each w n l h))))))
 
-  selection : ¬ Refused9 k (t .count) → LeastNumber (Lacking k t) none → Selection k t
-  selection fine (Least.absent lacks) = record { some-kept = some-kept fine; complete = λ n h is. nothing-lacked n h is (lacks n) }
+  selection : (n : ℕ) × (Inside t n × T (k n)) → LeastNumber (Lacking k t) none → Selection k t
+  selection some (Least.absent lacks) = record { some-kept = some; complete = λ n h is. nothing-lacked n h is (lacks n) }
 
 -- ---- what is written
 
@@ -102,9 +102,9 @@ module _ (b : List ℕ) (k : ℕ → Bool) (S : SoundTable b) where
     ends = events-end cut (omega (arith, cut-length));
   }
 
-  module _ (fine : ¬ Refused9 k (t .count)) (complete : LeastNumber (Lacking k t) none) where
+  module _ (selected : Selection k t) where
     invents-nothing : NoFaultInvented k t (eventsOf cut)
-    invents-nothing = cut-invents-no-fault k t (eventsOf cut) (S .formed) (selection k t (S .formed) fine complete) is-cut
+    invents-nothing = cut-invents-no-fault k t (eventsOf cut) (S .formed) selected is-cut
 
     cut-passes : (i : ℕ) → i < newNumber k (t .count) → Passes cut i
     cut-passes i h =
@@ -139,7 +139,7 @@ module _ (b : List ℕ) (k : ℕ → Bool) (S : SoundTable b) where
 not-kept : {A : Type 0} {r : Refusal} {n : ℕ} → Refused r ≡ Kept n → A
 not-kept e = absurd (let z : _≡_ {A = ℕ} 0 1 = cc in omega arith)
 
-kept-whole : {b before : List ℕ} {k : ℕ → Bool} {n : ℕ} {a : CutDown} → Decides b k before a → a ≡ Kept n → (m : ℕ) × (Whole b k m × (n ≡ newNumber k m))
+kept-whole : {b s before : List ℕ} {n : ℕ} {a : CutDown} → Decides b s before a → a ≡ Kept n → (m : ℕ) × (Whole b s m × (n ≡ newNumber (named s) m))
 kept-whole (bad-table _) e = not-kept e
 kept-whole (bad-selection _ _ _) e = not-kept e
 kept-whole (lacking _ _ _) e = not-kept e
@@ -148,14 +148,16 @@ kept-whole (good {n = m} w _) e = (m, (w, cc))
 
 -- Demand 3, as one theorem about what the cut wrote
 pub cut-right :
-    (b : List ℕ) (k : ℕ → Bool) (before after : List ℕ) (n : ℕ) → CutAnswer b k before after (Kept n) → RightCut b k n (take (16 * n) after)
-cut-right b k before after n answer =
+    (b s before after : List ℕ) (n : ℕ) → CutAnswer b s before after (Kept n) → RightCut b (named s) n (take (16 * n) after)
+cut-right b s before after n answer =
+    let k = named s in
     let (m, (whole, size)) = kept-whole (answer .decided) refl in
     let passed = whole .selected .sound in
     let count = sound-count b m passed in
     let S = sound-table b m passed in
     let same = size ∙ ap (newNumber k) (sym count) in
     let written = ap (take (16 * n)) (answer .bytes) ∙ take-at (cut b k S) (drop (16 * newNumber k (eventsOf b .count)) before) (16 * n) (cut-length b k S ∙ ap (λ (x : ℕ). 16 * x) (sym same)) in
+    let some = some-named (subst⁻¹ (λ (x : ℕ). ¬ Refused9 s x) count (whole .selected .not-9)) in
     subst⁻¹ (RightCut b k n) written
     (subst⁻¹ (λ (x : ℕ). RightCut b k x (cut b k S)) same
-    (right b k S (subst⁻¹ (λ (x : ℕ). ¬ Refused9 k x) count (whole .selected .not-9)) (whole .not-10)))
+    (right b k S (selection k (eventsOf b) (S .formed) some (whole .not-10))))

@@ -17,7 +17,7 @@ use Rattle.edit.specs.declared.appending.Appended.{Appended}
 use Rattle.edit.specs.declared.appending.Appended.the-variants.{Refused, Count}
 
 module _ (b : List ℕ) (used : ℕ) where
-  -- not 1: "in an append, instead, more than 64 records in use or more than the buffer holds"
+  -- not 1: "in an append, instead, more" records in use than the limit "or more than the buffer holds"
   pub record InUse : Type 0 where
     pub few : used ≤ limit
     pub held : recordSize * used ≤ length b
@@ -31,7 +31,7 @@ module _ (b : List ℕ) (used : ℕ) where
     pub in-use : InUse
     pub sound : RecordsAnswer front (tested.Sound used)
 
-  -- neither 12, "append to 64 records", nor 11
+  -- neither 12, "append to" as many records as the limit, nor 11
   pub record Ready : Type 0 where
     pub sound-use : SoundUse
     pub not-full : ¬ (used ≡ limit)

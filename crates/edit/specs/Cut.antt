@@ -1,4 +1,4 @@
--- A cut: what it answers in document 01's order, and what the output holds then. k n says whether record n is kept.
+-- A cut: what it answers in document 01's order, and what the output holds then. k n says whether record n is kept; a selection names those.
 use mathlib.Core.Path.{_≡_}
 use mathlib.Core.Bool.{Bool}
 use mathlib.Core.List.{List, [], _++_}
@@ -9,6 +9,7 @@ use lib.ListN.{length, drop, set}
 use Rattle.refusals.specs.declared.Refusal.{Refusal}
 use Rattle.refusals.specs.Numbers.{at, told}
 use Rattle.laws.specs.Least.{LeastNumber}
+use Rattle.selections.specs.Selection.{named, Refused9}
 use Rattle.record.specs.Form.{recordSize, pick, parentByte, sourceByte, part}
 use Rattle.model.specs.Table.{Table, Inside}
 use Rattle.model.specs.Relations.{EarlierRace}
@@ -18,7 +19,6 @@ use Rattle.table.specs.Events.{eventsOf}
 use Rattle.table.specs.Test.{TestAnswer}
 use Rattle.edit.specs.declared.cutting.CutDown.{CutDown}
 use Rattle.edit.specs.declared.cutting.CutDown.the-variants.{Refused, Kept}
-use Rattle.edit.specs.Selection.{Refused9}
 
 -- ---- what is written
 
@@ -51,32 +51,33 @@ pub record Lacking (k : ℕ → Bool) (t : Table) (n : ℕ) : Type 0 where
   pub kept : T (k n)
   pub incomplete : ¬ Complete k t n
 
-module _ (b : List ℕ) (k : ℕ → Bool) where
+-- the table b, and the selection s of its records
+module _ (b s : List ℕ) where
   -- neither 1 to 8 nor 9 is given for a table of n records
   pub record Selected (n : ℕ) : Type 0 where
     pub sound : TestAnswer b (tested.Sound n)
-    pub not-9 : ¬ Refused9 k n
+    pub not-9 : ¬ Refused9 s n
 
   -- nor is 10
   pub record Whole (n : ℕ) : Type 0 where
     pub selected : Selected n
-    pub not-10 : LeastNumber (Lacking k (eventsOf b)) none
+    pub not-10 : LeastNumber (Lacking (named s) (eventsOf b)) none
 
   module _ (before : List ℕ) where
     -- "A cut: 1, records, 9, 10, 11": which answer is given
     pub data Decides : CutDown → Type 0 where
       bad-table : {r : Refusal} → TestAnswer b (tested.Refused r) → Decides (Refused r)
-      bad-selection : {r : Refusal} {n : ℕ} → TestAnswer b (tested.Sound n) → Refused9 k n → told r ≡ at 9 0 → Decides (Refused r)
+      bad-selection : {r : Refusal} {n : ℕ} → TestAnswer b (tested.Sound n) → Refused9 s n → told r ≡ at 9 0 → Decides (Refused r)
       -- "for 10 the least such kept record"
-      lacking : {r : Refusal} {n m : ℕ} → Selected n → LeastNumber (Lacking k (eventsOf b)) (some m) → told r ≡ at 10 m → Decides (Refused r)
-      no-room : {r : Refusal} {n : ℕ} → Whole n → ¬ (recordSize * newNumber k n ≤ length before) → told r ≡ at 11 0 → Decides (Refused r)
+      lacking : {r : Refusal} {n m : ℕ} → Selected n → LeastNumber (Lacking (named s) (eventsOf b)) (some m) → told r ≡ at 10 m → Decides (Refused r)
+      no-room : {r : Refusal} {n : ℕ} → Whole n → ¬ (recordSize * newNumber (named s) n ≤ length before) → told r ≡ at 11 0 → Decides (Refused r)
       -- "and returns k"
-      good : {n : ℕ} → Whole n → recordSize * newNumber k n ≤ length before → Decides (Kept (newNumber k n))
+      good : {n : ℕ} → Whole n → recordSize * newNumber (named s) n ≤ length before → Decides (Kept (newNumber (named s) n))
 
     -- "A refusal changes nothing lent"
     abbrev pub bytesAfter : CutDown → List ℕ
     bytesAfter (Refused r) = before
-    bytesAfter (Kept n) = cutBytes k b (eventsOf b .count) before
+    bytesAfter (Kept n) = cutBytes (named s) b (eventsOf b .count) before
 
     pub record CutAnswer (after : List ℕ) (answer : CutDown) : Type 0 where
       pub decided : Decides answer

@@ -1,5 +1,4 @@
 -- What an append and a cut answer, and what they write.
 pub mod Append
-pub mod Selection
 pub mod Cut
 pub mod Columns

@@ -1,6 +1,6 @@
 // The least kept record that lacks its parent, its source or its racing write: refusal 10.
 ghost use mathlib.Core.Path.{_≡_};
-ghost use Prim.Native.Nat.{ℕ, _<_, _≤_};
+ghost use Prim.Native.Nat.{ℕ, _*_, _<_, _≤_};
 ghost use lib.Dec.{T};
 ghost use lib.ListN.{length};
 ghost use Rattle.events.specs.declared.Link.the-variants.{To};
@@ -11,7 +11,8 @@ ghost use Rattle.model.specs.Relations.{Hb, Race, StandsOnRace};
 ghost use Rattle.table.specs.Events.{eventsOf};
 ghost use Rattle.facts.specs.Sound.{Counted};
 ghost use Rattle.relations.specs.Given.{Given};
-ghost use Rattle.edit.specs.Columns.{keptBy, Judging, lackOf};
+ghost use Rattle.selections.specs.Selection.{named};
+ghost use Rattle.edit.specs.Columns.{Judging, lackOf};
 ghost use Rattle.edit.specs.Cut.{RaceKept, Lacking};
 use events::Link;
 use facts::parent;
@@ -20,6 +21,7 @@ use limits::LIMIT;
 use precedence::upward::conflict_matrix;
 use precedence::upward::hb_matrix;
 use relations::race::race_matrix;
+use selections::names;
 use shown::reads::races_earlier;
 use shown::reads::stands_on_race;
 
@@ -30,54 +32,54 @@ pub enum Lack {
 }
 
 // What the link leads to, if anything, is kept.
-fn link_kept(kept: &[u8], link: Link) -> bool
-    requires { ⌜ ((n : ℕ) → link ≡ To n → n < length (now kept)) ⌝ }
-    ensures { λ r. ⌜ Says r ((n : ℕ) → link ≡ To n → T (keptBy (now (kept .entry)) n)) ⌝ }
+fn link_kept(selection: &[u8], link: Link) -> bool
+    requires { ⌜ ((n : ℕ) → link ≡ To n → n < 8 * length (now selection)) ⌝ }
+    ensures { λ r. ⌜ Says r ((n : ℕ) → link ≡ To n → T (named (now (selection .entry)) n)) ⌝ }
 {
     match link {
         Link::Absent => true,
-        Link::To(n) => kept[n as usize] == 1,
+        Link::To(n) => names(selection, n as usize),
     }
 }
 
 // A write that is kept races with n, earlier in the table.
-fn any_kept(table: &[u8], kept: &[u8], race: &[u8], count: usize, n: usize) -> bool
-    requires { ⌜ Counted (now table) count × Given count (Race (eventsOf (now table))) (now race) × (count ≤ length (now kept)) × (n < count) ⌝ }
-    ensures { λ r. ⌜ Says r (RaceKept (keptBy (now (kept .entry))) (eventsOf (now (table .entry))) n) ⌝ }
+fn any_kept(table: &[u8], selection: &[u8], race: &[u8], count: usize, n: usize) -> bool
+    requires { ⌜ Counted (now table) count × Given count (Race (eventsOf (now table))) (now race) × (count ≤ 8 * length (now selection)) × (n < count) ⌝ }
+    ensures { λ r. ⌜ Says r (RaceKept (named (now (selection .entry))) (eventsOf (now (table .entry))) n) ⌝ }
 {
     let mut found = false;
     for w in 0..count {
-        found = found | ((kept[w] == 1) & races_earlier(table, race, count, w, n));
+        found = found | (names(selection, w) & races_earlier(table, race, count, w, n));
     }
     found
 }
 
 // Where n stands on a race, "one of those racing writes" is kept.
-fn race_kept(table: &[u8], kept: &[u8], hb: &[u8], race: &[u8], count: usize, n: usize) -> bool
-    requires { ⌜ Judging (now table) count (now kept) (now hb) (now race) × (n < count) ⌝ }
-    ensures { λ r. ⌜ Says r (StandsOnRace (eventsOf (now (table .entry))) n → RaceKept (keptBy (now (kept .entry))) (eventsOf (now (table .entry))) n) ⌝ }
+fn race_kept(table: &[u8], selection: &[u8], hb: &[u8], race: &[u8], count: usize, n: usize) -> bool
+    requires { ⌜ Judging (now table) count (now selection) (now hb) (now race) × (n < count) ⌝ }
+    ensures { λ r. ⌜ Says r (StandsOnRace (eventsOf (now (table .entry))) n → RaceKept (named (now (selection .entry))) (eventsOf (now (table .entry))) n) ⌝ }
 {
-    !stands_on_race(table, hb, race, count, n) | any_kept(table, kept, race, count, n)
+    !stands_on_race(table, hb, race, count, n) | any_kept(table, selection, race, count, n)
 }
 
 // A kept record that "lacks its parent, its source, or its racing write".
-fn lacks(table: &[u8], kept: &[u8], hb: &[u8], race: &[u8], count: usize, n: usize) -> bool
-    requires { ⌜ Judging (now table) count (now kept) (now hb) (now race) × (n < count) ⌝ }
-    ensures { λ r. ⌜ Says r (Lacking (keptBy (now (kept .entry))) (eventsOf (now (table .entry))) n) ⌝ }
+fn lacks(table: &[u8], selection: &[u8], hb: &[u8], race: &[u8], count: usize, n: usize) -> bool
+    requires { ⌜ Judging (now table) count (now selection) (now hb) (now race) × (n < count) ⌝ }
+    ensures { λ r. ⌜ Says r (Lacking (named (now (selection .entry))) (eventsOf (now (table .entry))) n) ⌝ }
 {
-    let complete = link_kept(kept, parent(table, n))
-        & link_kept(kept, source(table, n))
-        & race_kept(table, kept, hb, race, count, n);
-    (kept[n] == 1) & !complete
+    let complete = link_kept(selection, parent(table, n))
+        & link_kept(selection, source(table, n))
+        & race_kept(table, selection, hb, race, count, n);
+    names(selection, n) & !complete
 }
 
 // The least, by the matrices of hb and of races.
-fn least_lacking_by(table: &[u8], kept: &[u8], hb: &[u8], race: &[u8], count: usize) -> Lack
-    requires { ⌜ Judging (now table) count (now kept) (now hb) (now race) ⌝ }
-    ensures { λ r. ⌜ LeastNumber (Lacking (keptBy (now (kept .entry))) (eventsOf (now (table .entry)))) (lackOf r) ⌝ }
+fn least_lacking_by(table: &[u8], selection: &[u8], hb: &[u8], race: &[u8], count: usize) -> Lack
+    requires { ⌜ Judging (now table) count (now selection) (now hb) (now race) ⌝ }
+    ensures { λ r. ⌜ LeastNumber (Lacking (named (now (selection .entry))) (eventsOf (now (table .entry)))) (lackOf r) ⌝ }
 {
     for n in 0..count {
-        if lacks(table, kept, hb, race, count, n) {
+        if lacks(table, selection, hb, race, count, n) {
             return Lack::Record(n);
         }
     }
@@ -95,13 +97,13 @@ fn races(table: &[u8], hb: &[u8], count: usize, race: &mut [u8])
 }
 
 // "for 10 the least such kept record"
-pub fn least_lacking(table: &[u8], kept: &[u8], count: usize) -> Lack
-    requires { ⌜ Counted (now table) count × (count ≤ length (now kept)) ⌝ }
-    ensures { λ r. ⌜ LeastNumber (Lacking (keptBy (now (kept .entry))) (eventsOf (now (table .entry)))) (lackOf r) ⌝ }
+pub fn least_lacking(table: &[u8], selection: &[u8], count: usize) -> Lack
+    requires { ⌜ Counted (now table) count × (count ≤ 8 * length (now selection)) ⌝ }
+    ensures { λ r. ⌜ LeastNumber (Lacking (named (now (selection .entry))) (eventsOf (now (table .entry)))) (lackOf r) ⌝ }
 {
     let mut hb = [0u8; LIMIT * LIMIT];
     hb_matrix(table, count, &mut hb);
     let mut race = [0u8; LIMIT * LIMIT];
     races(table, &hb, count, &mut race);
-    least_lacking_by(table, kept, &hb, &race, count)
+    least_lacking_by(table, selection, &hb, &race, count)
 }

@@ -1,10 +1,7 @@
 // A cut: the selected records of a table, written to a lent output.
 ghost use Rattle.table.specs.declared.Tested.the-variants.{Sound};
 ghost use Rattle.table.specs.Test.{TestAnswer};
-ghost use Rattle.edit.specs.Columns.{keptBy, Choice, Completed};
-ghost use Rattle.edit.specs.Cut.{CutAnswer};
-ghost use Rattle.edit.specs.Selection.{named};
-use crate::choosing::choose;
+ghost use Rattle.edit.specs.Cut.{Selected, Whole, CutAnswer};
 use crate::completeness::Lack;
 use crate::completeness::least_lacking;
 use crate::numbering::number;
@@ -20,46 +17,45 @@ pub enum CutDown {
     Kept(usize),
 }
 
-// The cut by a column that lacks nothing: 11, or the kept records.
-fn cut_complete(table: &[u8], count: usize, kept: &[u8], out: &mut [u8]) -> CutDown
-    requires { ⌜ Completed (now table) count (now kept) ⌝ }
-    ensures { λ r. ⌜ CutAnswer (now (table .entry)) (keptBy (now (kept .entry))) (now (out .entry)) (now (out .exit)) r ⌝ }
+// The cut by a selection that lacks nothing: 11, or the kept records.
+fn cut_complete(table: &[u8], count: usize, selection: &[u8], out: &mut [u8]) -> CutDown
+    requires { ⌜ Whole (now table) (now selection) count ⌝ }
+    ensures { λ r. ⌜ CutAnswer (now (table .entry)) (now (selection .entry)) (now (out .entry)) (now (out .exit)) r ⌝ }
 {
     let mut numbers = [0u8; LIMIT];
-    let size = number(kept, count, &mut numbers);
+    let size = number(selection, count, &mut numbers);
     if SIZE * size <= out.len() {
-        write_kept(table, kept, &numbers, count, out);
+        write_kept(table, selection, &numbers, count, out);
         return CutDown::Kept(size);
     }
     CutDown::Refused(Refusal::Room)
 }
 
-// The cut by a column: 10, then the rest.
-fn cut_by(table: &[u8], count: usize, kept: &[u8], out: &mut [u8]) -> CutDown
-    requires { ⌜ Choice (now table) count (now kept) ⌝ }
-    ensures { λ r. ⌜ CutAnswer (now (table .entry)) (keptBy (now (kept .entry))) (now (out .entry)) (now (out .exit)) r ⌝ }
+// The cut by a selection that is not refused: 10, then the rest.
+fn cut_by(table: &[u8], count: usize, selection: &[u8], out: &mut [u8]) -> CutDown
+    requires { ⌜ Selected (now table) (now selection) count ⌝ }
+    ensures { λ r. ⌜ CutAnswer (now (table .entry)) (now (selection .entry)) (now (out .entry)) (now (out .exit)) r ⌝ }
 {
-    match least_lacking(table, kept, count) {
+    match least_lacking(table, selection, count) {
         Lack::Record(n) => CutDown::Refused(Refusal::Incomplete(n)),
-        Lack::Nothing => cut_complete(table, count, kept, out),
+        Lack::Nothing => cut_complete(table, count, selection, out),
     }
 }
 
 // The cut of a sound table: 9, then the rest.
-fn cut_sound(table: &[u8], count: usize, selection: u64, out: &mut [u8]) -> CutDown
+fn cut_sound(table: &[u8], count: usize, selection: &[u8], out: &mut [u8]) -> CutDown
     requires { ⌜ TestAnswer (now table) (Sound count) ⌝ }
-    ensures { λ r. ⌜ CutAnswer (now (table .entry)) (named selection) (now (out .entry)) (now (out .exit)) r ⌝ }
+    ensures { λ r. ⌜ CutAnswer (now (table .entry)) (now (selection .entry)) (now (out .entry)) (now (out .exit)) r ⌝ }
 {
-    let mut kept = [0u8; LIMIT];
-    if choose(selection, count, &mut kept) {
+    if selections::refused(selection, count) {
         return CutDown::Refused(Refusal::Selection);
     }
-    cut_by(table, count, &kept, out)
+    cut_by(table, count, selection, out)
 }
 
-// Cuts the table down to the records that the selection names: "bit n for record n".
-pub fn cut(table: &[u8], selection: u64, out: &mut [u8]) -> CutDown
-    ensures { λ r. ⌜ CutAnswer (now (table .entry)) (named selection) (now (out .entry)) (now (out .exit)) r ⌝ }
+// Cuts the table down to the records that the selection names.
+pub fn cut(table: &[u8], selection: &[u8], out: &mut [u8]) -> CutDown
+    ensures { λ r. ⌜ CutAnswer (now (table .entry)) (now (selection .entry)) (now (out .entry)) (now (out .exit)) r ⌝ }
 {
     match table::test(table) {
         Tested::Refused(r) => CutDown::Refused(r),

@@ -1,6 +1,5 @@
 // Tables made from tables: an event appended, and a table cut down to a selection.
 pub mod appending;
-mod choosing;
 mod completeness;
 pub mod cutting;
 mod numbering;

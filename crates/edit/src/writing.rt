@@ -3,12 +3,14 @@ ghost use mathlib.Core.Path.{_≡_};
 ghost use Prim.Native.Nat.{_+_, _*_, _≤_};
 ghost use lib.ListN.{length};
 ghost use Rattle.record.specs.Form.{recordSize, part, overwritten};
-ghost use Rattle.edit.specs.Columns.{numberIn, LinkIn, PartLinks, Placing, keptBy, Writing};
+ghost use Rattle.selections.specs.Selection.{named};
+ghost use Rattle.edit.specs.Columns.{numberIn, LinkIn, PartLinks, Placing, Writing};
 ghost use Rattle.edit.specs.Cut.{renumberedLink, renumberedBytes, cutBytes};
 use record::places::NONE;
 use record::places::PARENT;
 use record::places::SIZE;
 use record::places::SOURCE;
+use selections::names;
 
 // The byte of a link, as the new number of the same record.
 fn relinked(numbers: &[u8], link: u8) -> u8
@@ -54,12 +56,12 @@ fn write_record(table: &[u8], n: usize, numbers: &[u8], out: &mut [u8])
 }
 
 // Writes the kept records one after another.
-pub fn write_kept(table: &[u8], kept: &[u8], numbers: &[u8], count: usize, out: &mut [u8])
-    requires { ⌜ Writing (now table) (now kept) (now numbers) count (now out) ⌝ }
-    ensures { λ _. ⌜ now (out .exit) ≡ cutBytes (keptBy (now (kept .entry))) (now (table .entry)) count (now (out .entry)) ⌝ }
+pub fn write_kept(table: &[u8], selection: &[u8], numbers: &[u8], count: usize, out: &mut [u8])
+    requires { ⌜ Writing (now table) (now selection) (now numbers) count (now out) ⌝ }
+    ensures { λ _. ⌜ now (out .exit) ≡ cutBytes (named (now (selection .entry))) (now (table .entry)) count (now (out .entry)) ⌝ }
 {
     for n in 0..count {
-        if kept[n] == 1 {
+        if names(selection, n) {
             write_record(table, n, numbers, out);
         }
     }

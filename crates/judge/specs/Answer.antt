@@ -35,7 +35,7 @@ pub record Tells (b : List ℕ) (w : Witnesses) (x : Report) : Type 0 where
   pub right : Reports (eventsOf b) (record { witness = w; verdict = x .verdict })
   pub means : (f : Finding) → Means (foundOf (x .findings) f) (w f)
 
--- "to two lent buffers of at least 64 bytes"
+-- "to two lent buffers"; "cycle buffers are at least 200 bytes"
 pub record Roomy (before₁ before₂ : List ℕ) : Type 0 where
   pub first : limit ≤ length before₁
   pub second : limit ≤ length before₂

@@ -74,7 +74,7 @@ fn report_of(table: &[u8], n: usize, first: &mut [u8], second: &mut [u8]) -> Rep
     }
 }
 
-// "two lent buffers of at least 64 bytes"
+// "cycle buffers are at least 200 bytes"
 fn has_room(first: usize, second: usize) -> bool
     ensures { λ r. ⌜ Says r ((limit ≤ first) × (limit ≤ second)) ⌝ }
 {

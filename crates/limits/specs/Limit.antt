@@ -1,6 +1,6 @@
 -- How many records a table may have: the one place that says it in the definitions.
 use Prim.Native.Nat.{ℕ}
 
--- "A table is 1 to 64 records"
+-- "Raise the limit to 200 records, 3,200 bytes"
 abbrev pub limit : ℕ
-limit = 64
+limit = 200

@@ -1,2 +1,2 @@
 // How many records a table may have: the one place that says it in code.
-pub const LIMIT: usize = 64;
+pub const LIMIT: usize = 200;

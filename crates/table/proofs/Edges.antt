@@ -1,4 +1,4 @@
--- The edges that document 01 names, as facts of the definitions.
+-- The edges that documents 01 and 02 name, as facts of the definitions.
 use mathlib.Core.Path.{_≡_, refl}
 use mathlib.Core.List.{[], _∷_}
 use Prim.Native.Nat.{ℕ}
@@ -15,12 +15,12 @@ use Rattle.model.specs.Table.{listed}
 use Rattle.model.specs.Examples.{E2}
 use Rattle.table.specs.Test.{lengthOk}
 
--- "1,024 bytes pass test 1 and 1,040 don't"
-pub bytes-1024 : T (lengthOk 1024)
-bytes-1024 = tt
+-- "Raise the limit to 200 records, 3,200 bytes": 3,200 bytes pass test 1 and 3,216 don't
+pub bytes-3200 : T (lengthOk 3200)
+bytes-3200 = tt
 
-pub bytes-1040 : ¬ T (lengthOk 1040)
-bytes-1040 x = x
+pub bytes-3216 : ¬ T (lengthOk 3216)
+bytes-3216 x = x
 
 pub bytes-0 : ¬ T (lengthOk 0)
 bytes-0 x = x

@@ -77,7 +77,7 @@ module _ (t : Table) (ends : Ends t) (fits : (n : ℕ) → Inside t n → Fits (
         not-8 = s .not-8;
       }
 
--- "every well-formed table of at most 64 records, written out, is read back as itself"
+-- every well-formed table within the limit, written out, is read back as itself
 pub written-sound : (t : Table) → WellFormed t → ((n : ℕ) → Inside t n → Fits (t .at n)) → t .count ≤ limit → TestAnswer (bytesOf t) (Sound (t .count))
 written-sound t well fits small =
     let long = written-length (t .at) (t .count) in

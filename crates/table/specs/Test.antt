@@ -21,7 +21,7 @@ use Rattle.table.specs.declared.Tested.{Tested}
 use Rattle.table.specs.declared.Tested.the-variants as tested
 use Rattle.table.specs.Events.{countOf, eventsOf}
 
--- not 1: "length 0, not a multiple of 16, or above 1,024"
+-- not 1: "length 0, not a multiple of 16, or above" what the limit takes: "200 records, 3,200 bytes"
 abbrev pub lengthOk : ℕ → Bool
 lengthOk len = not (eqb len 0) && (eqb (len % recordSize) 0 && leb len (recordSize * limit))
 

@@ -7,14 +7,14 @@ use Rattle.edit.proofs.completeness.least_lacking.Tie as tie
 
 hb-matrix-requires : tie.Need-hb-matrix-requires
 hb-matrix-requires c κs =
-    let (counted, room) = c .before .before .before .pre in
+    let (counted, bits) = c .before .before .before .pre in
     (counted, square-few counted)
 
 races-requires : tie.Need-races-requires
 races-requires c κs =
     let ordered = c .before .before .before in
     let entry = ordered .before .before .before .before in
-    let (counted, room) = entry .pre in
+    let (counted, bits) = entry .pre in
     (counted, made-given (square-few counted) (ordered .hb-matrix .ensures), square-few counted)
 
 least-lacking-by-requires : tie.Need-least-lacking-by-requires
@@ -22,10 +22,10 @@ least-lacking-by-requires c κs =
     let raced = c .before .before .before in
     let ordered = raced .before .before .before .before in
     let entry = ordered .before .before .before .before in
-    let (counted, room) = entry .pre in
+    let (counted, bits) = entry .pre in
     record {
       table = counted;
-      room = room;
+      bits = bits;
       by-hb = made-given (square-few counted) (ordered .hb-matrix .ensures);
       by-race = made-given (square-few counted) (raced .races .ensures);
     }

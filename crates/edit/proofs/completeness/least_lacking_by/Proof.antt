@@ -5,17 +5,17 @@ use borrow.Author.Count.{below-more}
 use Rattle.laws.specs.Least.{Least}
 use Rattle.laws.proofs.Says.{said, denied}
 use Rattle.laws.proofs.Passed.{number-found}
+use Rattle.selections.specs.Selection.{named}
 use Rattle.table.specs.Events.{eventsOf}
-use Rattle.edit.specs.Columns.{keptBy}
 use Rattle.edit.specs.Cut.{Lacking}
 use Rattle.edit.proofs.completeness.least_lacking_by.Statement.{statement}
 use Rattle.edit.proofs.completeness.least_lacking_by.Tie as tie
 
 abbrev Inv-loop : tie.InvT-loop
-Inv-loop table kept hb race count n₀ n = (n ≤ count) × ((m : ℕ) → m < n → ¬ Lacking (keptBy kept) (eventsOf table) m)
+Inv-loop table selection hb race count n₀ n = (n ≤ count) × ((m : ℕ) → m < n → ¬ Lacking (named selection) (eventsOf table) m)
 
 abbrev μ-loop : tie.MeasureT-loop
-μ-loop table kept hb race count n₀ n = count - n
+μ-loop table selection hb race count n₀ n = count - n
 
 lacks-requires : tie.Need-lacks-requires Inv-loop μ-loop
 lacks-requires c κs =

@@ -13,7 +13,7 @@ any-kept-requires : tie.Need-any-kept-requires
 any-kept-requires c κs =
     let entry = c .before .before .before .before .before in
     let (j, h) = entry .pre in
-    (j .table, j .by-race, j .room, h)
+    (j .table, j .by-race, j .bits, h)
 
 pub race-kept-spec : {M : Type 1} → statement M
 race-kept-spec =

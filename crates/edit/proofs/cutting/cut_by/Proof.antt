@@ -2,7 +2,9 @@
 use mathlib.Core.Path.{refl}
 use borrow.Author.Needs.{needs}
 use denote.Ref.{now}
+use Rattle.selections.proofs.Naming.{bit-for-each}
 use Rattle.facts.proofs.Promise.{counted}
+use Rattle.facts.proofs.Records.{few}
 use Rattle.edit.specs.Cut.{lacking}
 use Rattle.edit.proofs.cutting.cut_by.Statement.{statement}
 use Rattle.edit.proofs.cutting.cut_by.Tie as tie
@@ -10,20 +12,21 @@ use Rattle.edit.proofs.cutting.cut_by.Tie as tie
 least-lacking-requires : tie.Need-least-lacking-requires
 least-lacking-requires c κs =
     let entry = c .before .before .before in
-    (counted (now (entry .args .table)) (entry .args .count) (entry .pre .selected .sound), entry .pre .room)
+    let sound = counted (now (entry .args .table)) (entry .args .count) (entry .pre .sound) in
+    (sound, bit-for-each (entry .pre .not-9) (few sound))
 
 cut-complete-requires : tie.Need-cut-complete-requires
 cut-complete-requires c κs =
     let asked = c .before .before .before in
     let entry = asked .before .before .before .before in
-    record { whole = record { selected = entry .pre .selected; not-10 = rw (c .before .enum-told .given .1) at (asked .least-lacking .ensures) }; room = entry .pre .room }
+    record { selected = entry .pre; not-10 = rw (c .before .enum-told .given .1) at (asked .least-lacking .ensures) }
 
 returns : tie.Need-returns
 returns c =
     let asked = c .before .before .before in
     let entry = asked .before .before .before .before in
     record {
-      decided = lacking (entry .pre .selected) (rw (c .before .n .given .1) at (asked .least-lacking .ensures)) refl;
+      decided = lacking (entry .pre) (rw (c .before .n .given .1) at (asked .least-lacking .ensures)) refl;
       bytes = refl;
     }
 

@@ -4,46 +4,44 @@ use mathlib.Core.Logic.{⊎-elim}
 use Prim.Native.Nat.{_-_, _≤_}
 use native.Mathlib.Omega.{arith}
 use lib.ListN.{length}
-use denote.Ref.{now}
-use Rattle.laws.proofs.Says.{says-eq}
-use Rattle.edit.specs.Columns.{keptBy, numberIn}
+use Rattle.laws.proofs.Says.{said, denied, says-is}
+use Rattle.selections.specs.Selection.{named}
 use Rattle.edit.specs.Cut.{keptBytes, cutBytes}
 use Rattle.edit.proofs.WritingOut.{written-length, placing, one-written, none-written}
 use Rattle.edit.proofs.writing.write_kept.Statement.{statement}
 use Rattle.edit.proofs.writing.write_kept.Tie as tie
 
 abbrev Inv-loop : tie.InvT-loop
-Inv-loop table kept numbers count out₀ n₀ out n = (n ≤ count) × (out ≡ cutBytes (keptBy kept) table n out₀)
+Inv-loop table selection numbers count out₀ n₀ out n = (n ≤ count) × (out ≡ cutBytes (named selection) table n out₀)
 
 abbrev μ-loop : tie.MeasureT-loop
-μ-loop table kept numbers count out₀ n₀ out n = count - n
+μ-loop table selection numbers count out₀ n₀ out n = count - n
 
 loop-holds : tie.Need-loop-holds Inv-loop μ-loop
 unfolding keptBytes
 loop-holds c = (omega arith, refl)
 
-shared-slice-read-if1 : tie.Need-shared-slice-read-if1 Inv-loop μ-loop
-shared-slice-read-if1 c =
-    let entry = c .before .before .before .before .before .before .before in
-    omega (arith, entry .pre .column)
+names-requires : tie.Need-names-requires Inv-loop μ-loop
+names-requires c κs =
+    let entry = c .before .before .before .before .before .before in
+    omega (arith, entry .pre .bits)
 
 write-record-requires : tie.Need-write-record-requires Inv-loop μ-loop
 write-record-requires c κs =
     let l = c .before .before .before .before in
     let entry = l .before .before .before .before .before in
-    let kept = now (entry .args .kept) in
     placing (entry .pre) (c .before .before .before .loop-test .taken) (l .loop .inv .1)
-    (says-eq (numberIn kept (l .loop .n)) 1 .from (c .before .if1 .taken))
+    (said (says-is (c .before .before .names .ensures)) (c .before .if1 .taken))
 
 loop-again : tie.Need-loop-again Inv-loop μ-loop
 loop-again c =
     let l = c .before .before .before in
     let entry = l .before .before .before .before .before in
-    let is = says-eq (numberIn (now (entry .args .kept)) (l .loop .n)) 1 in
+    let is = says-is (c .before .names .ensures) in
     let h = c .before .before .loop-test .taken in
     ⊎-elim
-    (λ w. (omega arith, w .5 ∙ one-written (entry .pre) h (l .loop .inv .1) (is .from (w .0 .taken)) (w .2 .ensures)))
-    (λ w. (omega arith, w .1 ∙ none-written (entry .pre) h (l .loop .inv .1) (λ x. w .0 .left (is .to x))))
+    (λ w. (omega arith, w .5 ∙ one-written (entry .pre) h (l .loop .inv .1) (said is (w .0 .taken)) (w .2 .ensures)))
+    (λ w. (omega arith, w .1 ∙ none-written (entry .pre) h (l .loop .inv .1) (denied is (w .0 .left))))
     (c .if1 .came)
 
 same-length : tie.Need-same-length Inv-loop μ-loop
@@ -60,4 +58,4 @@ returns c =
 pub write-kept-spec : {M : Type 1} → statement M
 write-kept-spec =
     tie.close
-    (tie.spec Inv-loop μ-loop loop-holds shared-slice-read-if1 write-record-requires (λ c. omega arith) (λ c. omega arith) loop-again same-length returns)
+    (tie.spec Inv-loop μ-loop loop-holds names-requires write-record-requires (λ c. omega arith) (λ c. omega arith) loop-again same-length returns)

@@ -1,0 +1,3 @@
+-- What is proved of a selection.
+pub mod Naming
+pub mod Edges

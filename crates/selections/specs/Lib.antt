@@ -1,0 +1,2 @@
+-- What a selection says.
+pub mod Selection
