@@ -1,6 +1,7 @@
 // Appends and cuts of tables of document 01, and what they give: counts, refusals, and every byte written.
 mod appends;
 mod cuts;
+mod large_cuts;
 mod refused;
 mod shown;
 
@@ -21,10 +22,13 @@ fn main() {
     refused::events(t);
     cuts::of_e2();
     cuts::bad_selections_of_e2();
+    cuts::sizes_of_selections();
+    cuts::last_bit();
     cuts::of_no_table();
     say_line(b"E2 and one more", &mut t, 5, new);
     say_records(&t, 5);
     refused::full();
+    large_cuts::of_chain();
     cuts::of_e8();
     cuts::of_e9();
 }

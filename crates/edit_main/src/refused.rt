@@ -57,7 +57,7 @@ fn bad_mark(table: [u8; 96]) -> [u8; 96] {
 }
 
 pub fn uses(t: [u8; 96], new: Record) {
-    try_append(b"65 in use", t, 96, 65, new);
+    try_append(b"201 in use", t, 96, LIMIT + 1, new);
     try_append(b"7 in use of 6", t, 96, 7, new);
     try_append(b"6 in use, the last no record", t, 96, 6, new);
     try_append(b"bad mark", bad_mark(t), 96, 5, new);
@@ -69,18 +69,29 @@ pub fn uses(t: [u8; 96], new: Record) {
 // Appends to a table that has as many records as it may have, or one less.
 pub fn full() {
     let mut t = [0u8; SIZE * LIMIT + SIZE];
-    large::write(Large::Chain, 64, &mut t);
-    let new = store(Order::Na, 0, 63, 31, 1);
-    say_line(b"64 in use", &mut t, 64, new);
-    say_within(b"64 in use, no room", &mut t, 1024, 64, new);
+    large::write(Large::Chain, 200, &mut t);
+    let new = store(Order::Na, 0, 199, 31, 1);
+    say_line(b"200 in use", &mut t, LIMIT, new);
+    say_within(b"200 in use, no room", &mut t, SIZE * LIMIT, LIMIT, new);
     say::text(b"\n");
-    say_within(b"63 in use, no room", &mut t, 1023, 63, new);
-    say::text(b"\n");
-    say_line(b"63 in use", &mut t, 63, store(Order::Sc, 0, 62, 31, 7));
-    say_line(
-        b"64 in use, new one wrong",
+    say_within(
+        b"199 in use, no room",
         &mut t,
-        64,
+        SIZE * LIMIT - 1,
+        LIMIT - 1,
+        new,
+    );
+    say::text(b"\n");
+    say_line(
+        b"199 in use",
+        &mut t,
+        LIMIT - 1,
+        store(Order::Sc, 0, 198, 31, 7),
+    );
+    say_line(
+        b"200 in use, new one wrong",
+        &mut t,
+        LIMIT,
         load(Order::Rel, 16, 99, 99, 99, 1),
     );
 }

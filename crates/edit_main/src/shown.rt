@@ -3,7 +3,7 @@ use programs::say;
 use programs::say::Form;
 use record::places::SIZE;
 
-fn say_record(part: &[u8]) -> bool {
+pub fn say_record(part: &[u8]) -> bool {
     say::text(b" ") & say::bytes(Form::Hex, b" ", part) & say::text(b"\n")
 }
 

@@ -88,7 +88,7 @@ fn main() {
     of_documents();
     arms();
     tokens();
-    judge_large(b"chain", Large::Chain, 64);
+    judge_large(b"chain", Large::Chain, 200);
     judge_large(b"seven", Large::Seven, 36);
     judge_large(b"circle", Large::Circle, 49);
     orders();

@@ -1,5 +1,6 @@
 // Tables of the shared kinds, judged.
 ghost use Prim.Native.Nat.{_<_, _≤_};
+ghost use Rattle.limits.specs.Limit.{limit};
 ghost use Rattle.record.specs.Form.{recordSize};
 use crate::judging::say_judging;
 use limits::LIMIT;
@@ -21,7 +22,7 @@ pub fn judge_script(name: &[u8], script: &[u8]) {
 
 // The first `count` records of a large table.
 pub fn judge_large(name: &[u8], large: Large, count: u8)
-    requires { ⌜ count ≤ 64 ⌝ }
+    requires { ⌜ count ≤ limit ⌝ }
 {
     let mut table = [0u8; SIZE * LIMIT];
     large::write(large, count, &mut table);

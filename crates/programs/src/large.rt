@@ -9,6 +9,7 @@ use crate::records::root;
 use crate::records::store;
 use events::Order;
 use events::Record;
+use limits::LIMIT;
 
 pub enum Large {
     Chain,
@@ -16,8 +17,8 @@ pub enum Large {
     Circle,
 }
 
-// 0 Init; 1 store NA X=1; from 2 on stores NA to Y, but 63, a load NA X u without a source; each the parent of the next.
-// Only by 62 steps of po is write 1 hb before read 63. So R at 63: a write of its location is before it, and no write races with it.
+// 0 Init; 1 store NA X=1; from 2 on stores NA to Y, but the last that a table can have, 199, a load NA X u without a source; each the parent
+// of the next. Only by 198 steps of po is write 1 hb before read 199. So R at 199: a write of its location is before it, and no write races with it.
 fn chain_record(n: u8) -> Record {
     if n == 0 {
         return root();
@@ -25,7 +26,7 @@ fn chain_record(n: u8) -> Record {
     if n == 1 {
         return store(Order::Na, 0, 0, 0, 1);
     }
-    if n == 63 {
+    if (n as usize) + 1 == LIMIT {
         return load_u(Order::Na, 0, n - 1, 0);
     }
     store(Order::Na, 0, n - 1, 1, 1)

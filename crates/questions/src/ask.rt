@@ -2,7 +2,6 @@
 ghost use Prim.Native.Nat.{_≤_};
 ghost use lib.ListN.{length};
 use crate::input::filled;
-use crate::input::next_selection;
 use crate::input::next_word;
 use edit::appending::Appended;
 use edit::appending::append;
@@ -20,7 +19,7 @@ use programs::say::Form;
 use record::places::SIZE;
 use record::record_from;
 
-// The longest table or buffer that is handed over: wrong lengths are tried too.
+// The longest table, selection, buffer or output that is handed over: wrong lengths are tried too.
 const MOST: usize = 4096;
 
 // What an output holds before a cut or a run over a batch.
@@ -62,19 +61,19 @@ pub fn take_judging() -> bool {
     judge_filled(&mut table[0..len])
 }
 
-fn say_cut(table: &[u8], selection: u64, out: &mut [u8]) -> bool {
+fn say_cut(table: &[u8], selection: &[u8], out: &mut [u8]) -> bool {
     match cut(table, selection, out) {
         CutDown::Kept(k) => say::number(b"cut ", k) & end_line(),
         CutDown::Refused(r) => say::refusal(r) & end_line(),
     }
 }
 
-fn cut_filled(table: &mut [u8], selection: u64, out: &mut [u8]) -> bool {
+fn cut_filled(table: &mut [u8], selection: &[u8], out: &mut [u8]) -> bool {
     filled(table) & say_cut(table, selection, out) & say_hex(out) & end_line()
 }
 
-pub fn take_cut() -> bool {
-    let selection = next_selection();
+// The rest of a question about a cut, once its selection is there.
+fn take_cut_by(selection: &[u8]) -> bool {
     let size = next_word();
     let len = next_word();
     if MOST < size {
@@ -86,6 +85,22 @@ pub fn take_cut() -> bool {
     let mut table = [0u8; MOST];
     let mut out = [FILL; MOST];
     cut_filled(&mut table[0..len], selection, &mut out[0..size])
+}
+
+fn cut_by_filled(selection: &mut [u8]) -> bool {
+    if filled(selection) {
+        return take_cut_by(selection);
+    }
+    false
+}
+
+pub fn take_cut() -> bool {
+    let len = next_word();
+    if MOST < len {
+        return false;
+    }
+    let mut selection = [0u8; MOST];
+    cut_by_filled(&mut selection[0..len])
 }
 
 fn say_append(buffer: &mut [u8], used: usize, new: Record) -> bool {

@@ -15,21 +15,3 @@ pub fn next_word() -> usize {
     }
     65536
 }
-
-fn long_of(a: u16, b: u16, c: u16, d: u16) -> u64 {
-    (a as u64) + 65536 * (b as u64) + 4294967296 * (c as u64) + 281474976710656 * (d as u64)
-}
-
-// Eight bytes, low byte first; 0 where there are none.
-pub fn next_selection() -> u64 {
-    let mut b = [0u8; 8];
-    if filled(&mut b) {
-        return long_of(
-            word_of(b[0], b[1]),
-            word_of(b[2], b[3]),
-            word_of(b[4], b[5]),
-            word_of(b[6], b[7]),
-        );
-    }
-    0
-}

@@ -8,7 +8,7 @@ ghost use Rattle.selections.specs.Selection.{selectionSize, named, Refus
 use limits::LIMIT;
 
 // How many bytes a selection has: a bit for each record that a table can have.
-pub const SIZE: usize = (LIMIT + 7) / 8;
+pub const SELECTION: usize = (LIMIT + 7) / 8;
 
 // Whether the selection names record n: "bit n mod 8 of byte n div 8".
 pub fn names(selection: &[u8], n: usize) -> bool
@@ -24,7 +24,7 @@ fn names_past(selection: &[u8], from: usize) -> bool
     ensures { λ r. ⌜ Says r ((n : ℕ) × ((from ≤ n) × T (named (now (selection .entry)) n))) ⌝ }
 {
     let mut found = false;
-    for n in 0..8 * SIZE {
+    for n in 0..8 * SELECTION {
         found = found | ((from <= n) & names(selection, n));
     }
     found
@@ -34,7 +34,7 @@ fn names_past(selection: &[u8], from: usize) -> bool
 pub fn refused(selection: &[u8], count: usize) -> bool
     ensures { λ r. ⌜ Says r (Refused9 (now (selection .entry)) count) ⌝ }
 {
-    if selection.len() == SIZE {
+    if selection.len() == SELECTION {
         return !names_past(selection, 0) | names_past(selection, count);
     }
     true

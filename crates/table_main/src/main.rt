@@ -1,10 +1,12 @@
 // The edges of document 01 on tables as bytes, one table for each refusal from 1 to 8, and the fetch: what the code says of them.
-ghost use Prim.Native.Nat.{_<_};
+ghost use Prim.Native.Nat.{_+_, _*_, _<_, _≤_};
+ghost use Rattle.limits.specs.Limit.{limit};
 ghost use Rattle.record.specs.Form.{recordSize};
 use events::Order;
 use fetch::FetchTest;
 use fetch::fetch;
 use fetch::refusal_of_fetch;
+use limits::LIMIT;
 use programs::examples;
 use programs::large;
 use programs::large::Large;
@@ -63,12 +65,12 @@ fn say_changed(what: &[u8], n: usize, place: usize, byte: u8) -> bool
     say_test(what, &examples::changed(n, place, byte))
 }
 
-// The test of the first bytes of a chain of 65 records.
+// The test of the first bytes of a chain of one record more than a table may have.
 fn say_front(what: &[u8], len: usize) -> bool
-    requires { ⌜ len < 1041 ⌝ }
+    requires { ⌜ len ≤ recordSize * limit + recordSize ⌝ }
 {
-    let mut chain = [0u8; 65 * SIZE];
-    large::write(Large::Chain, 65, &mut chain);
+    let mut chain = [0u8; SIZE * LIMIT + SIZE];
+    large::write(Large::Chain, 201, &mut chain);
     say_test(what, &chain[0..len])
 }
 
@@ -95,8 +97,10 @@ fn faults() {
 fn main() {
     let e2 = examples::e2();
     say_test(b"E2:", &e2);
-    say_front(b"1024 bytes:", 1024);
     say_front(b"1040 bytes:", 1040);
+    say_front(b"3200 bytes:", 3200);
+    say_front(b"3199 bytes:", 3199);
+    say_front(b"3216 bytes:", 3216);
     say_front(b"17 bytes:", 17);
     say_front(b"0 bytes:", 0);
     faults();
