@@ -24,7 +24,13 @@ module _ {bytes : List ℕ} {n : ℕ} (counted : Counted bytes n) where
   then-within =
       record { left = λ z. elsewhere-within .left (z .first); right = λ z. within-count counted (hb-within (formed counted)) .right (z .then) }
 
-  -- po≠, then hb; and then po≠; and po≠ alone
+  -- po≠, then hb
+  pub onward-made :
+      {po hb x m : List ℕ} → Given n (PoDiff (eventsOf bytes)) po → Given n (Hb (eventsOf bytes)) hb → Square n m → Made n n (Composed (Cell n po) (Cell n hb)) m x
+      → Made n n (Composed (PoDiff (eventsOf bytes)) (Hb (eventsOf bytes))) m x
+  onward-made po hb room made = record { rest = made .rest; rows = composed-given elsewhere-within po hb room made .holds }
+
+  -- and then po≠; and po≠ alone
   pub detours-made :
       {po hb x m m₀ m₁ m₂ : List ℕ} → Given n (PoDiff (eventsOf bytes)) po → Given n (Hb (eventsOf bytes)) hb → Square n m → Made n n (Composed (Cell n po) (Cell n hb)) m x → Square n m₀
       → Made n n (Composed (Cell n x) (Cell n po)) m₀ m₁ → Made n n (λ a b. Cell n m₁ a b ⊎ Cell n po a b) m₁ m₂ → Made n n (Detour (eventsOf bytes)) m₀ m₂

@@ -8,6 +8,7 @@ mod writes;
 
 pub use crate::cell::from_source;
 use crate::race::race_matrix;
+use crate::sequential::hbsc_matrix;
 use crate::sequential::sc_matrix;
 use crate::writes::wb_matrix;
 use crate::writes::wb0_matrix;
@@ -18,7 +19,8 @@ ghost use Rattle.table.specs.Events.{eventsOf};
 ghost use Rattle.facts.specs.Sound.{Counted};
 ghost use Rattle.relations.specs.Worked.{Lent, Worked};
 
-// The relations in document 01's order: po, cf, hb (with sw), race, wb0, wb, and the steps among SC records (with fr, po≠ and hbsc).
+// The relations: po, cf, hb (with sw), race, wb0, wb, and the steps among SC records (with fr, po≠ and hbsc). What these are made of stands
+// in room that is filled later, hbsc in that of race, so that no other has to be cleared.
 pub fn make_all(
     table: &[u8],
     n: usize,
@@ -34,10 +36,11 @@ pub fn make_all(
     ensures { λ _. ⌜ Worked (eventsOf (now (table .entry))) n (now (po .entry)) (now (po .exit)) (now (cf .entry)) (now (cf .exit)) (now (hb .entry)) (now (hb .exit)) (now (race .entry)) (now (race .exit)) (now (wb0 .entry)) (now (wb0 .exit)) (now (wb .entry)) (now (wb .exit)) (now (sc .entry)) (now (sc .exit)) ⌝ }
 {
     po_matrix(table, n, po);
-    conflict_matrix(table, n, cf);
     hb_matrix(table, n, hb);
-    race_matrix(table, hb, cf, n, race);
-    wb0_matrix(table, hb, n, wb0);
+    hbsc_matrix(table, po, hb, n, cf, wb0, race);
+    wb0_matrix(table, hb, n, cf, wb0);
     wb_matrix(wb0, n, wb);
-    sc_matrix(table, po, hb, wb, n, sc);
+    sc_matrix(table, race, wb, n, sc);
+    conflict_matrix(table, n, cf);
+    race_matrix(table, hb, cf, n, race);
 }

@@ -21,6 +21,7 @@ ghost use Rattle.model.specs.Relations.{Hb, Wb0, Wb};
 ghost use Rattle.table.specs.Events.{eventsOf};
 ghost use Rattle.facts.specs.Sound.{One, Counted};
 ghost use Rattle.relations.specs.Given.{Given};
+ghost use Rattle.relations.specs.Between.{BeforeOwned};
 ghost use Rattle.relations.specs.Owners.{ownNumber, sourceNumber, HandedBy, Handing};
 
 // No record has this number.
@@ -84,17 +85,16 @@ fn hand_on(end: End, own: &[u8], sources: &[u8], x: &[u8], n: usize, out: &mut [
     hand_by(end, sources, x, out, n);
 }
 
-// Row b, column a says whether a is wb0 before b.
-pub fn wb0_matrix(table: &[u8], hb: &[u8], n: usize, out: &mut [u8])
-    requires { ⌜ Counted (now table) n × Given n (Hb (eventsOf (now table))) (now hb) × Square n (now out) ⌝ }
-    ensures { λ _. ⌜ Made n n (Wb0 (eventsOf (now (table .entry)))) (now (out .entry)) (now (out .exit)) ⌝ }
+// Row b, column a says whether a is wb0 before b, made of what is hb before a record that b owns.
+pub fn wb0_matrix(table: &[u8], hb: &[u8], n: usize, owned: &mut [u8], out: &mut [u8])
+    requires { ⌜ Counted (now table) n × Given n (Hb (eventsOf (now table))) (now hb) × Square n (now owned) × Square n (now out) ⌝ }
+    ensures { λ _. ⌜ Made n n (BeforeOwned (eventsOf (now (table .entry)))) (now (owned .entry)) (now (owned .exit)) × Made n n (Wb0 (eventsOf (now (table .entry)))) (now (out .entry)) (now (out .exit)) ⌝ }
 {
     let mut own = [0u8; LIMIT];
     let mut sources = [0u8; LIMIT];
     owners(table, n, &mut own, &mut sources);
-    let mut to_owners = [0u8; LIMIT * LIMIT];
-    hand_on(End::Later, &own, &sources, hb, n, &mut to_owners);
-    hand_on(End::Earlier, &own, &sources, &to_owners, n, out);
+    hand_on(End::Later, &own, &sources, hb, n, owned);
+    hand_on(End::Earlier, &own, &sources, owned, n, out);
     keep(Kept::Wb0, table, n, out);
 }
 
