@@ -1,5 +1,6 @@
 #!/usr/bin/env python3
-"""stack_probes.py OBJECT ..: no function of these objects makes its stack frame after other code.
+"""stack_probes.py OBJECT ..: no function of these objects makes its stack frame after other code, and the large frames of one are
+two megabytes at most, all together (W5: what a judging may need of the stack; no function with a large frame calls itself).
 
 The compiler's back end (LLVM 22) reserves a large frame by a loop that overwrites register r11, and where a function can answer
 before it needs its frame, it may put that loop after code that keeps a value in r11: the value is lost (docs/DECISIONS.md, 37).
@@ -13,9 +14,13 @@ LOOP = re.compile(rb"\x48\x81\xec\x00\x10\x00\x00\x48\xc7\x04\x24\x00\x00\x00\x0
 BEGIN = re.compile(rb"(?:[\x50-\x57]|\x41[\x50-\x57])*\x49\x89\xe3\x49\x81\xeb....", re.S)
 
 
-def loops(code):
-    """For each loop that reserves a frame: whether it stands after other code."""
-    return [not BEGIN.fullmatch(code, 0, loop.start()) for loop in LOOP.finditer(code)]
+MOST = 2_000_000
+
+
+def frames(code):
+    """For each loop that reserves a frame: whether it stands after other code, and how many bytes it reserves, which stand before it."""
+    return [(not BEGIN.fullmatch(code, 0, loop.start()), int.from_bytes(code[loop.start() - 4:loop.start()], "little"))
+            for loop in LOOP.finditer(code)]
 
 
 def code_sections(data):
@@ -34,17 +39,22 @@ def code_sections(data):
 
 # The two kinds, as they were seen: a frame made first, and one made after `mov 8(%rsi),%r11`.
 FRAME = bytes.fromhex("55 41 57 53 49 89 e3 49 81 eb 00 b0 00 00 48 81 ec 00 10 00 00 48 c7 04 24 00 00 00 00 4c 39 dc 75 ec")
-if loops(FRAME) != [False] or loops(bytes.fromhex("4c 8b 5e 08") + FRAME) != [True]:
+if frames(FRAME) != [(False, 0xB000)] or frames(bytes.fromhex("4c 8b 5e 08") + FRAME) != [(True, 0xB000)]:
     sys.exit("stack_probes: it can't tell the two kinds of frames apart")
 
-found = late = 0
+found = late = most = 0
 for path in sys.argv[1:]:
+    whole = 0
     with open(path, "rb") as file:
         for name, code in code_sections(file.read()):
-            for is_late in loops(code):
+            for is_late, size in frames(code):
                 found += 1
                 late += is_late
+                whole += size
                 if is_late:
                     print(f"{path}: {name.removeprefix('.text.')} makes its frame after other code")
-print(f"{len(sys.argv) - 1} objects, {found} large frames, {late} made after other code")
-sys.exit(1 if late or not found else 0)
+    if whole > MOST:
+        print(f"{path}: its large frames are {whole} bytes together")
+    most = max(most, whole)
+print(f"{len(sys.argv) - 1} objects, {found} large frames, {late} made after other code, {most} bytes in one object at most")
+sys.exit(1 if late or most > MOST or not found else 0)
