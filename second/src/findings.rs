@@ -1,6 +1,6 @@
 //! The seven findings with their least witnesses, the verdict, and what stands on a race.
 
-use crate::relations::{matrix, Matrix, Relations};
+use crate::relations::{closure, matrix, turned, Matrix, Relations};
 use crate::table::{Kind, Order, Record};
 use crate::wrong::{is_asked, Way};
 
@@ -140,31 +140,30 @@ fn least_pair(size: usize, fits: impl Fn(usize, usize) -> bool) -> Option<(usize
 }
 
 /// "The witness has fewest records, and of those is the least list, number by number."
-/// A round of the fewest steps never meets a record twice, or a shorter one would exist.
+/// Of rounds with equally many records, the one with the least first record is the least list.
 pub fn least_cycle(step: &Matrix) -> Option<Vec<usize>> {
-    let size = step.len();
-    let distances: Vec<_> = (0..size).map(|target| distances_to(step, target)).collect();
-    for length in 1..=size {
-        for start in 0..size {
-            let back = &distances[start];
-            if (0..size).any(|next| step[start][next] && back[next] == Some(length - 1)) {
-                return Some(least_round(step, back, start, length));
-            }
+    let reached = closure(step);
+    let back = turned(step);
+    let mut least: Option<Vec<usize>> = None;
+    for start in (0..step.len()).filter(|&record| reached[record][record]) {
+        let round = least_round(step, &distances_to(&back, start), start);
+        if least.as_ref().is_none_or(|found| round.len() < found.len()) {
+            least = Some(round);
         }
     }
-    None
+    least
 }
 
-/// The fewest steps from each record to the target, found breadth first.
-fn distances_to(step: &Matrix, target: usize) -> Vec<Option<usize>> {
-    let mut distance = vec![None; step.len()];
+/// The fewest steps from each record to the target, found breadth first. `back` has the steps turned.
+fn distances_to(back: &Matrix, target: usize) -> Vec<Option<usize>> {
+    let mut distance = vec![None; back.len()];
     distance[target] = Some(0);
     let mut reached = vec![target];
     let mut done = 0;
     while done < reached.len() {
         let b = reached[done];
-        for a in 0..step.len() {
-            if step[a][b] && distance[a].is_none() {
+        for a in 0..back.len() {
+            if back[b][a] && distance[a].is_none() {
                 distance[a] = distance[b].map(|steps| steps + 1);
                 reached.push(a);
             }
@@ -174,16 +173,16 @@ fn distances_to(step: &Matrix, target: usize) -> Vec<Option<usize>> {
     distance
 }
 
-/// From the start, always the least next record from which the way back is just long enough.
-fn least_round(step: &Matrix, distance: &[Option<usize>], start: usize, length: usize) -> Vec<usize> {
+/// The least of the shortest rounds from the start, which is on one: always the least next record from which the
+/// way back is just long enough. A round of the fewest steps never meets a record twice, or a shorter one would exist.
+fn least_round(step: &Matrix, distance: &[Option<usize>], start: usize) -> Vec<usize> {
+    let next_of = |here: usize| (0..step.len()).filter(move |&b| step[here][b]);
+    let length = 1 + next_of(start).filter_map(|b| distance[b]).min().expect("the start is on a round");
     let mut list = vec![start];
     while list.len() < length {
-        let here = list[list.len() - 1];
         let left = length - list.len();
-        let next = (0..step.len())
-            .find(|&b| step[here][b] && distance[b] == Some(left))
-            .expect("the way back was found before");
-        list.push(next);
+        let next = next_of(list[list.len() - 1]).find(|&b| distance[b] == Some(left));
+        list.push(next.expect("the way back was found before"));
     }
     list
 }
