@@ -2,17 +2,22 @@
 
 use crate::batch::{read_batch, MOST_BYTES};
 use crate::examples::{example, examples};
-use crate::generate::any_table;
+use crate::gadgets::far_read;
+use crate::generate::any_size_table;
+use crate::large_gadgets::{patterns, SIZES};
 use crate::pack::{ending_bytes, pack, refused_table, ENDINGS};
 use crate::questions::Question;
 use crate::random::Random;
+use crate::table::MOST_RECORDS;
 
 /// Batches chosen to reach everything, then grown ones.
 pub fn ask_batches(seed: u64) -> Vec<Question> {
     // Chances of its own, so that all other questions of a seed stay what they are.
     let mut random = Random::new(!seed);
     let mut list = Vec::new();
-    for batch in small_batches(&mut random).into_iter().chain(refused_inside(&mut random)) {
+    let small = small_batches(&mut random);
+    let refused = refused_inside(&mut random);
+    for batch in small.into_iter().chain(refused).chain(large_inside()) {
         list.extend(with_each_output(&mut random, batch));
     }
     list.extend(large_batches());
@@ -51,6 +56,17 @@ fn refused_inside(random: &mut Random) -> Vec<Vec<u8>> {
             let ending = random.pick(&ENDINGS);
             list.push([pack(&tables), ending_bytes(random, ending)].concat());
         }
+    }
+    list
+}
+
+/// A large table of each size between two small ones, each another pattern; and one above the limit behind a full one.
+fn large_inside() -> Vec<Vec<u8>> {
+    let mut list =
+        vec![pack(&[far_read(MOST_RECORDS).concat(), far_read(MOST_RECORDS + 1).concat(), example("E5")])];
+    for (number, size) in SIZES.into_iter().enumerate() {
+        let large = &patterns(size)[number];
+        list.push(pack(&[example("E2"), large.table.concat(), example("E4")]));
     }
     list
 }
@@ -96,7 +112,7 @@ fn large_batches() -> Vec<Question> {
 
 /// One to four tables of any shape, any ending, and mostly enough output.
 fn grown_batch(random: &mut Random) -> Question {
-    let tables: Vec<Vec<u8>> = (0..1 + random.below(4)).map(|_| any_table(random).concat()).collect();
+    let tables: Vec<Vec<u8>> = (0..1 + random.below(4)).map(|_| any_size_table(random).concat()).collect();
     let ending = random.pick(&ENDINGS);
     let batch = [pack(&tables), ending_bytes(random, ending)].concat();
     let exact = text_size(&batch);

@@ -8,6 +8,7 @@ use crate::pack::{ending_bytes, pack, ENDINGS};
 use crate::questions::Question;
 use crate::random::Random;
 use crate::record::init;
+use crate::selection::naming_first;
 
 /// How many damaged tables a batch of the questions holds, and a batch that is a file.
 const IN_QUESTION: usize = 40;
@@ -48,7 +49,7 @@ fn ask_judge(table: &Table) -> Question {
 /// A cut that keeps every record.
 fn ask_cut(table: &Table) -> Question {
     let count = table.records.len();
-    Question::Cut { selection: (1 << count) - 1, output_size: 16 * count as u16, table: table.bytes() }
+    Question::Cut { selection: naming_first(count), output_size: 16 * count as u16, table: table.bytes() }
 }
 
 /// An append of a sound event, the damaged record being in use.

@@ -3,10 +3,12 @@
 use crate::batch::MOST_BYTES;
 use crate::examples::{example, examples};
 use crate::figures::{figures_of, text_of};
-use crate::generate::any_table;
+use crate::gadgets::far_read;
+use crate::generate::any_size_table;
 use crate::pack::{ending_bytes, pack, refused_table, Ending, ENDINGS};
 use crate::questions::Question;
 use crate::random::Random;
+use crate::table::MOST_RECORDS;
 
 /// Chances of their own for what is made for figures, so that all else of a seed stays what it is.
 pub fn figures_random(seed: u64) -> Random {
@@ -16,7 +18,7 @@ pub fn figures_random(seed: u64) -> Random {
 pub fn ask_figures(seed: u64) -> Vec<Question> {
     let mut random = figures_random(seed);
     let mut list = Vec::new();
-    for batch in small_batches(&mut random) {
+    for batch in small_batches(&mut random).into_iter().chain(large_inside()) {
         list.extend(with_each_output(&mut random, batch));
     }
     list.extend(long_numbers());
@@ -36,6 +38,16 @@ fn small_batches(random: &mut Random) -> Vec<Vec<u8>> {
         }
     }
     list
+}
+
+/// The largest table full, and not full behind one above the limit.
+fn large_inside() -> Vec<Vec<u8>> {
+    let chain = |size: usize| far_read(size).concat();
+    let full = MOST_RECORDS;
+    vec![
+        pack(&[example("E5"), chain(full), example("E1")]),
+        pack(&[chain(full + 1), chain(full - 1), example("E9")]),
+    ]
 }
 
 /// The batch with an output of the exact size, a byte less, none, and more.
@@ -85,7 +97,7 @@ fn around_the_limit() -> Vec<Question> {
 
 /// One to four tables of any shape, any ending, and mostly enough output.
 fn grown_batch(random: &mut Random) -> Question {
-    let tables: Vec<Vec<u8>> = (0..1 + random.below(4)).map(|_| any_table(random).concat()).collect();
+    let tables: Vec<Vec<u8>> = (0..1 + random.below(4)).map(|_| any_size_table(random).concat()).collect();
     let ending = random.pick(&ENDINGS);
     let batch = [pack(&tables), ending_bytes(random, ending)].concat();
     let exact = text_size(&batch);

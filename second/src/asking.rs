@@ -2,50 +2,63 @@
 
 use crate::findings::racing_writes_stood_on;
 use crate::grow::{propose, PROFILES};
-use crate::questions::Question;
+use crate::questions::{Question, MOST_PART};
 use crate::random::Random;
 use crate::record::{init, put_read, put_written, Bytes};
 use crate::relations::Relations;
-use crate::table::{read_table, NONE};
+use crate::selection::{naming, SELECTION_BYTES};
+use crate::table::{read_table, MOST_RECORDS, NONE, RECORD_BYTES};
+use std::collections::BTreeSet;
+
+/// How many bytes a table takes at most.
+const MOST_BYTES: usize = RECORD_BYTES * MOST_RECORDS;
 
 /// A cut of the table, mostly of a selection that lacks nothing.
 pub fn ask_cut(random: &mut Random, table: &[Bytes]) -> Question {
     let bytes = table.concat();
-    let wish = random.next() & random.next() & random.next();
+    let wish = some_of(random, table.len(), 12);
     let with_races = random.percent(75);
-    let mut selection = closed_selection(&bytes, wish | 1, with_races);
+    let mut kept = closed_selection(&bytes, &wish, with_races);
     match random.below(20) {
-        0 => selection = 0,
-        1 => selection |= 1 << random.below(64),
-        2 => selection = random.next(),
-        3 => selection |= 1u64.checked_shl(table.len() as u32).unwrap_or(0),
-        4 => selection = u64::MAX.checked_shr(64 - table.len() as u32).unwrap_or(u64::MAX),
-        5..=7 => selection &= !(1 << random.below(table.len())),
+        0 => kept.clear(),
+        1 => _ = kept.insert(random.below(MOST_RECORDS)),
+        2 => kept = some_of(random, table.len(), 50),
+        3 => _ = kept.insert(table.len().min(MOST_RECORDS - 1)),
+        4 => kept = (0..table.len()).collect(),
+        5..=7 => _ = kept.remove(&random.below(table.len())),
         _ => {}
     }
-    let exact = 16 * selection.count_ones() as usize;
+    let exact = RECORD_BYTES * kept.len();
     let longer = exact + random.below(40);
-    let sizes = [exact, exact, longer, longer, 1024, exact.saturating_sub(1), random.below(1100)];
+    let sizes = [exact, exact, longer, longer, MOST_BYTES, exact.saturating_sub(1), random.below(MOST_BYTES)];
+    let mut selection = naming(&kept);
+    if random.percent(4) {
+        selection.resize(random.below(2 * SELECTION_BYTES), 0);
+    }
     Question::Cut { selection, output_size: random.pick(&sizes) as u16, table: bytes }
 }
 
+/// Record 0 and each other with this chance, in percent.
+pub fn some_of(random: &mut Random, count: usize, chance: usize) -> BTreeSet<usize> {
+    (0..count).filter(|&n| n == 0 || random.percent(chance)).collect()
+}
+
 /// The records wished for with all their parents and sources, and the racing writes they stand on.
-pub fn closed_selection(bytes: &[u8], wish: u64, with_races: bool) -> u64 {
-    let Ok(records) = read_table(bytes) else { return wish };
+pub fn closed_selection(bytes: &[u8], wish: &BTreeSet<usize>, with_races: bool) -> BTreeSet<usize> {
+    let mut kept = wish.clone();
+    let Ok(records) = read_table(bytes) else { return kept };
     let relations = Relations::of(&records, usize::MAX);
-    let mut selection = wish & u64::MAX.checked_shr(64 - records.len() as u32).unwrap_or(0);
+    // What a record needs stands earlier.
     for n in (0..records.len()).rev() {
-        if selection >> n & 1 == 0 {
+        if !kept.contains(&n) {
             continue;
         }
-        let links = [records[n].parent, records[n].source];
-        links.iter().flatten().for_each(|&link| selection |= 1 << link);
+        kept.extend([records[n].parent, records[n].source].into_iter().flatten());
         if with_races {
-            let racing = racing_writes_stood_on(&records, &relations, n);
-            racing.first().iter().for_each(|&&write| selection |= 1 << write);
+            kept.extend(racing_writes_stood_on(&records, &relations, n).first());
         }
     }
-    selection
+    kept
 }
 
 /// An append to the table or to the records before some place, with a buffer of some length.
@@ -63,14 +76,15 @@ pub fn ask_append(random: &mut Random, table: &[Bytes]) -> Question {
         unsettle(random, &mut event, in_use);
     }
     let mut buffer = used.concat();
-    let room = random.pick(&[0, 1, 15, 16, 16, 16, 17, 32, 100, 1024 - 16 * in_use, 1100]);
+    let rooms = [0, 1, 15, 16, 16, 16, 17, 32, 100, MOST_BYTES - buffer.len(), 1100];
+    let room = random.pick(&rooms).min(MOST_PART - buffer.len());
     for _ in 0..room {
         buffer.push(random.byte());
     }
     let claimed = match random.below(20) {
-        0 => in_use + 1 + room / 16,
-        1 => 65,
-        2 => random.pick(&[66, 128, 4096, 65535]),
+        0 => in_use + 1 + room / RECORD_BYTES,
+        1 => MOST_RECORDS + 1,
+        2 => random.pick(&[65, 202, 255, 256, 257, 4096, 65535]),
         _ => in_use,
     };
     Question::Append { in_use: claimed as u16, event, buffer }
@@ -79,7 +93,7 @@ pub fn ask_append(random: &mut Random, table: &[Bytes]) -> Question {
 /// Changes a new event within what an event can hold: any link, thread, location, value or order,
 /// and a source even where its kind has none; no other field leaves its rest, and an Init has no order to choose.
 pub fn unsettle(random: &mut Random, event: &mut Bytes, in_use: usize) {
-    let link = random.pick(&[0, in_use as u8, random_near(in_use), NONE, 64, 254]);
+    let link = random.pick(&[0, in_use as u8, random_near(in_use), NONE, 64, MOST_RECORDS as u8, 254]);
     match random.below(8) {
         0 if event[2] != 0 => event[3] = random.below(5) as u8,
         1 => event[4] = random.pick(&[0, 1, 2, 15, 16, 17, 255]),
@@ -104,9 +118,10 @@ fn random_near(in_use: usize) -> u8 {
 
 /// A fetch of a record, or of a number past the table.
 pub fn ask_fetch(random: &mut Random, bytes: Vec<u8>) -> Question {
-    let count = bytes.len() / 16;
+    let count = bytes.len() / RECORD_BYTES;
     let inside = random.below(count.max(1));
-    let asked = random.pick(&[0, inside, inside, count.saturating_sub(1), count, count + 1, 64, 255]);
+    let numbers = [0, inside, inside, count.saturating_sub(1), count, count + 1, MOST_RECORDS, 255];
+    let asked = random.pick(&numbers);
     let far = random.pick(&[256, 4096, 65535]);
     Question::Fetch { asked: if random.percent(8) { far } else { asked } as u16, table: bytes }
 }

@@ -1,13 +1,16 @@
 //! Whole batches for the program that reads one, from a seed: endings, sizes, refusals and findings.
 
 use crate::ask_bytes::damaged_batches;
-use crate::batch::HEADER_BYTES;
+use crate::ask_large::large_random;
+use crate::batch::{HEADER_BYTES, MOST_BYTES};
 use crate::examples::{example, examples};
 use crate::gadgets::{finding_sets, sized_tables};
-use crate::generate::any_table;
+use crate::generate::{any_size_table, any_table};
 use crate::grow::shuffle;
+use crate::large_gadgets::{patterns, Pattern, SIZES};
 use crate::pack::{ending_bytes, header, pack, refused_table, Ending, ENDINGS};
 use crate::random::Random;
+use crate::table::{MOST_RECORDS, RECORD_BYTES};
 
 pub fn batch_files(seed: u64) -> Vec<Vec<u8>> {
     let mut random = Random::new(seed);
@@ -22,6 +25,7 @@ pub fn batch_files(seed: u64) -> Vec<Vec<u8>> {
     list.extend(around_the_limit(&mut random));
     list.extend(grown_batches(&mut random));
     list.extend(damaged_batches(seed));
+    list.extend(large_tables(seed));
     list
 }
 
@@ -50,7 +54,7 @@ fn each_refusal(random: &mut Random) -> Vec<Vec<u8>> {
     }
     let all: Vec<Vec<u8>> = (1..=8).map(|number| refused_table(random, number)).collect();
     list.push(pack(&all));
-    for length in [1, 15, 17, 255, 256, 257, 1023, 1025, 1040] {
+    for length in [1, 15, 17, 255, 256, 257, 1023, 1024, 1025, 1040, 3199, 3200, 3201, 3215, 3216] {
         list.push(pack(&[example("E1"), vec![0x45; length], example("E5")]));
     }
     list
@@ -61,6 +65,23 @@ fn each_finding(random: &mut Random) -> Vec<Vec<u8>> {
     let tables: Vec<Vec<u8>> =
         finding_sets().iter().chain(&sized_tables()).map(|table| shuffle(random, table).concat()).collect();
     tables.chunks(20).map(pack).collect()
+}
+
+/// Every large pattern, in another order where there is one, in batches of as many as always fit; and as many full
+/// tables as fit.
+fn large_tables(seed: u64) -> Vec<Vec<u8>> {
+    let mut random = large_random(seed.rotate_left(16));
+    let mut any_order = |pattern: &Pattern| match pattern.can_be_relisted {
+        true => pattern.relisted(&mut random).concat(),
+        false => pattern.table.concat(),
+    };
+    let tables: Vec<Vec<u8>> =
+        SIZES.into_iter().flat_map(patterns).map(|pattern| any_order(&pattern)).collect();
+    let at_once = MOST_BYTES / (HEADER_BYTES + RECORD_BYTES * MOST_RECORDS);
+    let full: Vec<Vec<u8>> = patterns(MOST_RECORDS).iter().map(|pattern| pattern.table.concat()).collect();
+    let mut list: Vec<Vec<u8>> = tables.chunks(at_once).map(pack).collect();
+    list.push(pack(&full.iter().cycle().take(at_once).collect::<Vec<_>>()));
+    list
 }
 
 /// Three small tables, the batch that is damaged below, and where each header begins.
@@ -147,7 +168,8 @@ pub fn filled(random: &mut Random, size: usize) -> Vec<u8> {
 fn grown_batches(random: &mut Random) -> Vec<Vec<u8>> {
     let mut list = Vec::new();
     for number in 0..80 {
-        let tables: Vec<Vec<u8>> = (0..1 + random.below(6)).map(|_| any_table(random).concat()).collect();
+        let tables: Vec<Vec<u8>> =
+            (0..1 + random.below(6)).map(|_| any_size_table(random).concat()).collect();
         let ending = random.pick(&ENDINGS);
         let mut batch = [pack(&tables), ending_bytes(random, ending)].concat();
         if number % 4 == 0 {

@@ -3,6 +3,9 @@
 use crate::record::{init, load, load_u, store, update, update_u, Bytes};
 use crate::table::NONE;
 
+/// "thread, 0 to 15"
+pub const THREADS: u8 = 16;
+
 /// A table under construction, with threads and locations that are still free.
 pub struct Builder {
     pub table: Vec<Bytes>,
@@ -29,6 +32,11 @@ impl Builder {
     pub fn location(&mut self) -> u8 {
         self.next_location += 1;
         self.next_location - 1
+    }
+
+    /// Whether there is a thread not used before.
+    pub fn has_thread(&self) -> bool {
+        self.next_thread < THREADS
     }
 
     /// An Init of a thread not used before.

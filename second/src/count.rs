@@ -3,9 +3,13 @@
 use crate::count_batches::{reached_by_question, required_of_questions};
 use crate::count_bytes::{reached_by_bytes, required_of_bytes};
 use crate::count_figures::{reached_by_figures, required_of_figures};
+use crate::count_full::{reached_by_full, required_of_full};
+use crate::count_large::{reached_by_length, reached_by_pattern, required_of_large};
+use crate::count_selections::{reached_by_cut, required_of_cuts};
 use crate::count_updates::{reached_by_updates, required_of_updates};
 use crate::findings::{FINDINGS, VERDICTS};
 use crate::questions::Question;
+use crate::table::MOST_RECORDS;
 use std::collections::BTreeMap;
 
 #[derive(Default)]
@@ -27,17 +31,24 @@ impl Counts {
             self.count_line(question, line);
         }
         self.count_findings(answer);
-        let reached = match question {
-            Question::Judge { table } => reached_by_updates(table, answer),
+        let mut reached = match question {
+            Question::Judge { table } => {
+                [reached_by_updates(table, answer), reached_by_pattern(table, answer)].concat()
+            }
+            Question::Cut { selection, output_size, table } => {
+                reached_by_cut(selection, *output_size as usize, table, answer)
+            }
             Question::Batch { output_size, batch } => {
                 reached_by_question(batch, *output_size as usize, answer)
             }
             Question::Figures { output_size, batch } => {
                 reached_by_figures(batch, *output_size as usize, answer)
             }
-            _ => Vec::new(),
+            Question::Append { .. } | Question::Fetch { .. } => reached_by_full(question, answer),
         };
-        reached.into_iter().chain(reached_by_bytes(question, answer)).for_each(|what| self.add(what));
+        reached.extend(reached_by_length(question, answer));
+        reached.extend(reached_by_bytes(question, answer));
+        reached.into_iter().for_each(|what| self.add(what));
     }
 
     pub fn add(&mut self, what: String) {
@@ -134,8 +145,11 @@ pub fn required() -> Vec<String> {
     list.extend(VERDICTS.map(|verdict| format!("verdict {verdict}")));
     list.extend((2..=30).map(|length| format!("A1 length {length}")));
     list.extend((1..=30).map(|length| format!("A4 length {length}")));
-    list.extend((1..=64).map(|size| format!("size {size}")));
+    list.extend((1..=MOST_RECORDS).map(|size| format!("size {size}")));
     list.extend(required_of_updates());
+    list.extend(required_of_large());
+    list.extend(required_of_full());
+    list.extend(required_of_cuts());
     list.extend(required_of_bytes());
     list.extend(required_of_questions());
     list.extend(required_of_figures());

@@ -3,10 +3,12 @@
 use crate::batch::{read_batch, HEADER_BYTES, MARK};
 use crate::count::Counts;
 use crate::count_bytes::{byte_named, required_of_judged_bytes, NAMED};
+use crate::count_large::required_in_another_order;
 use crate::findings::FINDINGS;
+use crate::large_gadgets::SIZES as LARGE;
 use crate::questions::Question;
 use crate::relations::depth;
-use crate::table::Refusal;
+use crate::table::{Refusal, MOST_RECORDS, RECORD_BYTES};
 use crate::text::judge;
 
 /// The sizes of whole files around the limit.
@@ -28,9 +30,19 @@ pub fn reached_by_question(batch: &[u8], output_size: usize, answer: &[String]) 
     ];
     reached.extend(double_fault(batch, refusal).map(|fault| format!("batch {fault}")));
     for line in bytes_in(&answer[1]).split(|&byte| byte == b'\n') {
-        reached.extend(table_refused(&String::from_utf8_lossy(line)));
+        let line = String::from_utf8_lossy(line);
+        reached.extend(table_refused(&line));
+        reached.extend(line.strip_prefix("events ").map(table_judged));
     }
+    let is_above = |table: &&[u8]| table.len() == RECORD_BYTES * (MOST_RECORDS + 1);
+    reached.extend(read_batch(batch).tables.iter().any(is_above).then(|| ABOVE_LIMIT.to_string()));
     reached
+}
+
+const ABOVE_LIMIT: &str = "batch table of one record above the limit";
+
+fn table_judged(records: &str) -> String {
+    format!("batch table of {records} records")
 }
 
 /// What the line of a refused table reaches: its number, and the byte that it names.
@@ -122,6 +134,8 @@ pub fn required_of_questions() -> Vec<String> {
     list.extend(numbers.map(|number| format!("batch answered {number}")));
     list.extend((1..=8).map(|number| format!("batch table refused {number}")));
     list.extend(NAMED.map(table_byte));
+    list.extend(LARGE.map(|size| table_judged(&size.to_string())));
+    list.push(ABOVE_LIMIT.to_string());
     list.extend(["exact", "longer", "one byte short", "shorter"].map(|size| format!("batch output {size}")));
     list
 }
@@ -153,6 +167,10 @@ pub fn required_of_files() -> Vec<String> {
     list.extend(SIZES.map(|size| format!("{size} bytes")));
     list.extend((1..=8).map(|number| format!("judge refused {number}")));
     list.extend(required_of_judged_bytes());
+    list.extend(LARGE.map(|size| format!("size {size}")));
+    list.extend(required_in_another_order());
+    let above = RECORD_BYTES * (MOST_RECORDS + 1);
+    list.push(format!("judge of {above} bytes refused 1"));
     list.extend(FINDINGS.map(|finding| format!("finding {finding}")));
     list.extend(["consistent", "inconsistent", "undefined"].map(|verdict| format!("verdict {verdict}")));
     list

@@ -4,7 +4,7 @@ use crate::count_batches::bytes_in;
 use crate::figures::{figures_of, text_of, Figures};
 use crate::read_figures::read_figures;
 use crate::relations::depth;
-use crate::table::Refusal;
+use crate::table::{Refusal, MOST_RECORDS};
 
 /// What a question about figures reaches, by its answer.
 pub fn reached_by_figures(batch: &[u8], output_size: usize, answer: &[String]) -> Vec<String> {
@@ -21,9 +21,15 @@ pub fn reached_by_figures(batch: &[u8], output_size: usize, answer: &[String]) -
         format!("figures {}", ending(&figures)),
         format!("figures output {length}, {}", ending(&figures)),
     ];
-    let digits = figures.map(|figures| figures.tables.to_string().len());
-    reached.extend(digits.map(|digits| format!("figures tables of {digits} digits")));
+    if let Ok(figures) = figures {
+        reached.push(format!("figures tables of {} digits", figures.tables.to_string().len()));
+        reached.push(largest_class(figures.largest));
+    }
     reached
+}
+
+fn largest_class(records: usize) -> String {
+    format!("figures largest {records}")
 }
 
 /// A question that was refused 11, by what the second judge would have written.
@@ -60,5 +66,6 @@ pub fn required_of_figures() -> Vec<String> {
         list.extend(outputs.map(|output| format!("figures output {output}, {ending}")));
     }
     list.extend((1..=5).map(|digits| format!("figures tables of {digits} digits")));
+    list.extend([0, MOST_RECORDS - 1, MOST_RECORDS].map(largest_class));
     list
 }

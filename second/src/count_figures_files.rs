@@ -84,18 +84,22 @@ fn reached_by_largest(
     match (figures.largest, figures.tables) {
         (0, 0) => reached.push("largest 0, no table".to_string()),
         (0, _) => reached.push("largest 0, all tables refused".to_string()),
-        (MOST_RECORDS, _) => reached.push("largest 64".to_string()),
+        (MOST_RECORDS, _) => reached.push(format!("largest {MOST_RECORDS}")),
         _ => {}
     }
     for (table, _) in tables.iter().zip(answers).filter(|(_, answer)| answer.is_err()) {
         let (records, past) = (table.len() / RECORD_BYTES, table.len() % RECORD_BYTES);
         if figures.largest > 0 && records > figures.largest {
-            let size = if records > MOST_RECORDS { "above 64" } else { "within 64" };
+            let size = if records > MOST_RECORDS { "above" } else { "within" };
             let whole = if past == 0 { "whole" } else { "broken" };
-            reached.push(format!("a refused table larger than the largest, {size}, {whole}"));
+            reached.push(refused_class(size, whole));
         }
     }
     reached
+}
+
+fn refused_class(size: &str, whole: &str) -> String {
+    format!("a refused table larger than the largest, {size} {MOST_RECORDS}, {whole}")
 }
 
 /// A pair whose figures are to be sums.
@@ -145,10 +149,10 @@ pub fn required_of_folder() -> Vec<String> {
     let several = ["a table with two findings", "a table with more findings"];
     list.extend(several.map(|what| what.to_string()));
     list.push("an undefined table with other findings".to_string());
-    let largest = ["0, no table", "0, all tables refused", "64"];
+    let largest = ["0, no table".to_string(), "0, all tables refused".to_string(), MOST_RECORDS.to_string()];
     list.extend(largest.map(|what| format!("largest {what}")));
-    let refused = ["within 64, whole", "above 64, whole", "above 64, broken"];
-    list.extend(refused.map(|what| format!("a refused table larger than the largest, {what}")));
+    let refused = [("within", "whole"), ("above", "whole"), ("above", "broken")];
+    list.extend(refused.map(|(size, whole)| refused_class(size, whole)));
     list.extend(required_of_pairs().iter().map(|what| format!("pair: {what}")));
     list
 }

@@ -2,7 +2,7 @@
 
 use crate::random::Random;
 use crate::record::Bytes;
-use crate::table::{read_table, Refusal, NONE};
+use crate::table::{read_table, Refusal, MOST_RECORDS, NONE};
 
 /// The table with one record damaged so that this refusal is its answer, if chance finds a way.
 pub fn damage(random: &mut Random, table: &[Bytes], number: u8, place: usize) -> Option<Vec<Bytes>> {
@@ -22,7 +22,8 @@ pub fn damage_once(random: &mut Random, table: &mut [Bytes], number: u8, place: 
     let size = table.len();
     let any = random.byte();
     let near = random.below(size + 2) as u8;
-    let link = random.pick(&[any, near, place as u8, NONE, 64, 254, size as u8, place as u8 + 1]);
+    let most = MOST_RECORDS as u8;
+    let link = random.pick(&[any, near, place as u8, NONE, 64, most, 254, size as u8, place as u8 + 1]);
     let small = random.below(6) as u8;
     match number {
         2 => table[place][random.below(2)] ^= any.max(1),
@@ -75,7 +76,7 @@ fn damage_sibling(random: &mut Random, table: &mut [Bytes], place: usize) {
 
 /// Any byte of any record set to any or an edge value.
 pub fn scatter(random: &mut Random, table: &mut [Bytes]) {
-    let edges = [0, 1, 2, 3, 4, 5, 15, 16, 31, 32, 63, 64, 254, 255];
+    let edges = [0, 1, 2, 3, 4, 5, 15, 16, 31, 32, 63, 64, 127, 128, 199, 200, 254, 255];
     let place = random.below(table.len());
     let position = random.below(16);
     table[place][position] = if random.percent(80) { random.pick(&edges) } else { random.byte() };

@@ -187,8 +187,8 @@ pub fn wrong_value(random: &mut Random, byte: usize, place: usize) -> u8 {
         2 | 8 => at_least(random, 4),
         3 => at_least(random, 5),
         4 => at_least(random, 16),
-        5 => random.pick(&[place as u8, 64, 254]),
-        6 => random.pick(&[0, place as u8, 64, 254]),
+        5 => random.pick(&[place as u8, 64, 200, 254]),
+        6 => random.pick(&[0, place as u8, 64, 200, 254]),
         7 => at_least(random, 32),
         _ => not_zero(random),
     }

@@ -2,18 +2,20 @@
 
 use crate::findings::racing_writes_stood_on;
 use crate::relations::Relations;
+use crate::selection::{kept_records, SELECTION_BYTES};
 use crate::table::{
-    read_after_mark, read_records, read_table, refuse, test_length, Record, Refusal, MOST_RECORDS,
+    most_records, read_after_mark, read_records, read_table, refuse, test_length, Record, Refusal,
     RECORD_BYTES,
 };
+use crate::wrong_selections::length_goes_first;
 
 /// "A cut: 1, records, 9, 10, 11." Returns how many records were kept.
-pub fn cut(table: &[u8], selection: u64, output: &mut [u8], depth: usize) -> Result<usize, Refusal> {
-    let records = read_table(table)?;
-    let kept: Vec<usize> = (0..64).filter(|n| selection >> n & 1 == 1).collect();
-    if kept.is_empty() || kept.iter().any(|&n| n >= records.len()) {
+pub fn cut(table: &[u8], selection: &[u8], output: &mut [u8], depth: usize) -> Result<usize, Refusal> {
+    if length_goes_first() && selection.len() != SELECTION_BYTES {
         return refuse(9, 0);
     }
+    let records = read_table(table)?;
+    let kept = kept_records(selection, records.len())?;
     let relations = Relations::of(&records, depth);
     for &n in &kept {
         if lacks_something(&records, &relations, &kept, n) {
@@ -55,12 +57,12 @@ fn write_kept(table: &[u8], records: &[Record], kept: &[usize], output: &mut [u8
 /// "An append: 1, records in use, 12, 11, then the new event by 3 to 8 at the next number, as if
 /// its bytes were read." Returns the new count.
 pub fn append(buffer: &mut [u8], in_use: usize, event: &[u8; 16]) -> Result<usize, Refusal> {
-    if in_use > MOST_RECORDS || RECORD_BYTES * in_use > buffer.len() {
+    if in_use > most_records() || RECORD_BYTES * in_use > buffer.len() {
         return refuse(1, 0);
     }
     let end = RECORD_BYTES * in_use;
     let records = read_records(&buffer[..end])?;
-    if in_use == MOST_RECORDS {
+    if in_use == most_records() {
         return refuse(12, 0);
     }
     if buffer.len() < end + RECORD_BYTES {

@@ -3,22 +3,29 @@
 use crate::ask_batches::ask_batches;
 use crate::ask_bytes::ask_bytes;
 use crate::ask_figures::ask_figures;
-use crate::asking::{ask_append, ask_cut, ask_fetch, closed_selection, unsettle};
+use crate::ask_full::ask_full;
+use crate::ask_large::ask_large;
+use crate::ask_large_cuts::ask_large_cuts;
+use crate::ask_selections::ask_selections;
+use crate::asking::{ask_append, ask_cut, ask_fetch, closed_selection, some_of, unsettle};
 use crate::builder::Builder;
 use crate::damage::{damage, damage_once, scatter};
 use crate::examples::{example, examples};
 use crate::findings::FINDINGS;
 use crate::gadgets::{
-    add_finding, far_read, far_standing, finding_sets, several_racing, sized_tables, standing_on_races,
+    add_finding, far_standing, finding_sets, several_racing, sized_tables, standing_on_races,
 };
 use crate::grow::{grow, propose, shuffle, PROFILES, RACES};
+use crate::large_gadgets::LEAST_LARGE;
 use crate::questions::Question;
 use crate::random::Random;
 use crate::record::{init, store, Bytes};
-use crate::table::NONE;
+use crate::selection::{naming, naming_first};
+use crate::table::{MOST_RECORDS, NONE};
+use std::collections::BTreeSet;
 
 /// At least `count` tables to judge, and cuts, appends and fetches beside them; then batches and their figures;
-/// then damaged records.
+/// then damaged records; then large tables and selections.
 pub fn generate(seed: u64, count: usize) -> Vec<Question> {
     let mut random = Random::new(seed);
     let mut list: Vec<Question> = examples().into_iter().map(|e| judged(e.bytes)).collect();
@@ -28,7 +35,7 @@ pub fn generate(seed: u64, count: usize) -> Vec<Question> {
     list.extend(fixed_edits(&mut random));
     let mut judges = list.iter().filter(|q| q.operation() == "judge").count();
     while judges < count {
-        let table = any_table(&mut random);
+        let table = any_size_table(&mut random);
         match judges % 8 {
             0 | 4 => list.push(ask_cut(&mut random, &table)),
             1 | 5 => list.push(ask_append(&mut random, &table)),
@@ -41,6 +48,10 @@ pub fn generate(seed: u64, count: usize) -> Vec<Question> {
     list.extend(ask_batches(seed));
     list.extend(ask_figures(seed));
     list.extend(ask_bytes(seed));
+    list.extend(ask_large(seed));
+    list.extend(ask_full(seed));
+    list.extend(ask_selections());
+    list.extend(ask_large_cuts(seed));
     list
 }
 
@@ -48,17 +59,9 @@ fn judged(table: Vec<u8>) -> Question {
     Question::Judge { table }
 }
 
-/// Lengths around the bounds of refusal 1, and threads and locations around those of 5.
+/// Threads and locations around the bounds of refusal 5.
 fn edges() -> Vec<Question> {
     let mut list = Vec::new();
-    let long = [far_read(64), far_read(64)].concat().concat();
-    for length in [0, 1, 15, 16, 17, 31, 32, 33, 1008, 1023, 1024, 1025, 1039, 1040, 2048] {
-        list.push(judged(long[..length].to_vec()));
-        list.push(judged(vec![0; length]));
-        list.push(Question::Fetch { asked: 0, table: long[..length].to_vec() });
-        let table = long[..length].to_vec();
-        list.push(Question::Cut { selection: 1, output_size: 16, table });
-    }
     for thread in [0, 1, 14, 15, 16, 17, 31, 32, 127, 128, 255] {
         list.push(judged([init(0, NONE), init(thread, 0)].concat()));
     }
@@ -75,10 +78,7 @@ fn gadget_tables(random: &mut Random) -> Vec<Question> {
         list.push(judged(table.concat()));
         list.push(judged(shuffle(random, &table).concat()));
     }
-    for size in 1..=64 {
-        let profile = random.pick(&PROFILES);
-        list.push(judged(grow(random, &profile, Vec::new(), size).concat()));
-    }
+    list.extend((1..LEAST_LARGE).map(|size| judged(grown_to(random, size).concat())));
     list
 }
 
@@ -97,7 +97,8 @@ fn each_refusal(random: &mut Random) -> Vec<Question> {
                 let bytes = damaged.concat();
                 let event = init(15, 0);
                 list.push(judged(bytes.clone()));
-                list.push(Question::Cut { selection: 1, output_size: 16, table: bytes.clone() });
+                let selection = naming_first(1);
+                list.push(Question::Cut { selection, output_size: 16, table: bytes.clone() });
                 list.push(Question::Append { in_use: last as u16 + 1, event, buffer: bytes });
                 found += 1;
                 if found == 6 {
@@ -109,13 +110,15 @@ fn each_refusal(random: &mut Random) -> Vec<Question> {
     list
 }
 
-/// Document 01's cuts; cuts for 10 by each lack; appends for 12 and 11, and for 3 to 8 at the new one.
+/// Document 01's cuts; cuts for 10 by each lack; appends for 3 to 8 at the new record.
 fn fixed_edits(random: &mut Random) -> Vec<Question> {
-    let cut = |name: &str, selection| Question::Cut { selection, output_size: 1024, table: example(name) };
-    let mut list = vec![cut("E2", 0b1011), cut("E8", 0b1_0101_1111), cut("E2", 0), cut("E2", 32)];
-    list.push(cut("E2", 0b10111));
+    let cut = |name: &str, kept: &[usize]| {
+        let selection = naming(&kept.iter().copied().collect());
+        Question::Cut { selection, output_size: 200, table: example(name) }
+    };
+    let mut list = vec![cut("E2", &[0, 1, 3]), cut("E8", &[0, 1, 2, 3, 4, 6, 8]), cut("E2", &[])];
+    list.extend([cut("E2", &[5]), cut("E2", &[0, 1, 2, 4]), cut("E2", &[0, 1, 2, 3, 4])]);
     list.extend(standing_cuts());
-    list.extend(full_tables(random));
     list.extend(race_cuts(random));
     for _ in 0..200 {
         let used = grown(random, 1);
@@ -141,28 +144,13 @@ fn standing_cuts() -> Vec<Question> {
     for table in [races.table, several.table].into_iter().chain(far) {
         for n in (0..table.len()).filter(|n| n + 12 > table.len()) {
             for with_races in [true, false] {
-                let selection = closed_selection(&table.concat(), 1 << n, with_races);
-                let exact = 16 * selection.count_ones() as u16;
+                let kept = closed_selection(&table.concat(), &BTreeSet::from([n]), with_races);
+                let exact = 16 * kept.len() as u16;
                 for output_size in [exact, exact - 1, 0] {
-                    list.push(Question::Cut { selection, output_size, table: table.concat() });
+                    list.push(Question::Cut { selection: naming(&kept), output_size, table: table.concat() });
                 }
             }
         }
-    }
-    list
-}
-
-/// Full tables: appends to good and to damaged ones, and cuts.
-fn full_tables(random: &mut Random) -> Vec<Question> {
-    let mut list = Vec::new();
-    for number in 2..=8 {
-        let full = grown_to(random, 64);
-        let event = propose(random, &PROFILES[0], &full);
-        let place = 1 + random.below(63);
-        let damaged = damage(random, &full, number, place).unwrap_or(full.clone());
-        list.push(Question::Append { in_use: 64, event, buffer: damaged.concat() });
-        list.push(Question::Append { in_use: 64, event, buffer: full.concat() });
-        list.push(ask_cut(random, &full));
     }
     list
 }
@@ -173,26 +161,40 @@ fn race_cuts(random: &mut Random) -> Vec<Question> {
     for _ in 0..100 {
         let size = 10 + random.below(40);
         let table = grow(random, &RACES, Vec::new(), size).concat();
-        let wish = random.next() & random.next();
-        let selection = closed_selection(&table, wish | 1, false);
+        let wish = some_of(random, size, 25);
+        let selection = naming(&closed_selection(&table, &wish, false));
         list.push(Question::Cut { selection, output_size: 1024, table });
     }
     list
 }
 
-fn grown_to(random: &mut Random, size: usize) -> Vec<Bytes> {
+pub fn grown_to(random: &mut Random, size: usize) -> Vec<Bytes> {
     let profile = random.pick(&PROFILES);
     grow(random, &profile, Vec::new(), size)
 }
 
 /// A grown table of so many records or more, small ones more often than large ones.
 pub fn grown(random: &mut Random, least: usize) -> Vec<Bytes> {
-    let bound = random.pick(&[8, 16, 32, 64]);
+    let bound = random.pick(&[8, 16, 32, LEAST_LARGE - 1]);
     let size = least + random.below(bound - least + 1);
     grown_to(random, size)
 }
 
-/// A table of any shape, well-formed or damaged.
+/// A table of any shape and now and then a large one, well-formed or damaged.
+pub fn any_size_table(random: &mut Random) -> Vec<Bytes> {
+    if !random.percent(3) {
+        return any_table(random);
+    }
+    let size = LEAST_LARGE + random.below(MOST_RECORDS - LEAST_LARGE + 1);
+    let mut table = grown_to(random, size);
+    if random.percent(30) {
+        table = shuffle(random, &table);
+    }
+    spoil_some(random, &mut table);
+    table
+}
+
+/// A table of any shape that is not large, well-formed or damaged.
 pub fn any_table(random: &mut Random) -> Vec<Bytes> {
     let mut table = match random.below(10) {
         0 | 1 => grown_on_findings(random),
@@ -207,16 +209,21 @@ pub fn any_table(random: &mut Random) -> Vec<Bytes> {
         }
         _ => grown(random, 1),
     };
+    spoil_some(random, &mut table);
+    table
+}
+
+/// Damages some of the tables that it is given.
+fn spoil_some(random: &mut Random, table: &mut [Bytes]) {
     match random.below(20) {
-        0 | 1 => spoil(random, &mut table),
+        0 | 1 => spoil(random, table),
         2 => {
-            spoil(random, &mut table);
-            spoil(random, &mut table);
+            spoil(random, table);
+            spoil(random, table);
         }
-        3 => scatter(random, &mut table),
+        3 => scatter(random, table),
         _ => {}
     }
-    table
 }
 
 /// One to three findings' patterns, more records grown around them, all shuffled.
@@ -225,7 +232,7 @@ fn grown_on_findings(random: &mut Random) -> Vec<Bytes> {
     for _ in 0..1 + random.below(3) {
         add_finding(&mut b, random.below(FINDINGS.len()));
     }
-    let size = (b.table.len() + random.below(20)).min(64);
+    let size = (b.table.len() + random.below(20)).min(LEAST_LARGE - 1);
     let profile = random.pick(&PROFILES);
     let table = grow(random, &profile, b.table, size);
     shuffle(random, &table)

@@ -73,8 +73,8 @@ pub fn grow(random: &mut Random, profile: &Profile, mut table: Vec<Bytes>, size:
     if table.is_empty() {
         table.push(init(0, NONE));
     }
+    let mut earlier = read_records(&table.concat()).expect("a table to grow is well-formed");
     while table.len() < size {
-        let earlier = read_records(&table.concat()).expect("the table grows well-formed");
         let last = table.len() - 1;
         let mut next = store(0, table[last][4], last as u8, 0, 1);
         for _ in 0..40 {
@@ -84,6 +84,7 @@ pub fn grow(random: &mut Random, profile: &Profile, mut table: Vec<Bytes>, size:
                 break;
             }
         }
+        earlier.push(read_after_mark(&next, &earlier).expect("the table grows well-formed"));
         table.push(next);
     }
     table

@@ -85,7 +85,7 @@ fn spoil_mark(random: &mut Random, bytes: &mut [u8]) {
 /// A table that is refused with this number, 1 to 8, at any record where the number can stand.
 pub fn refused_table(random: &mut Random, number: u8) -> Vec<u8> {
     if number == 1 {
-        let length = random.pick(&[0, 1, 4, 15, 17, 31, 1023, 1025, 1040]);
+        let length = random.pick(&[0, 1, 4, 15, 17, 31, 1023, 1025, 3199, 3201, 3216]);
         return vec![MARK[random.below(2)]; length];
     }
     loop {

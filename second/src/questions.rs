@@ -8,11 +8,13 @@ use crate::text::{hex, judge, refusal_line};
 
 /// What the output of a cut, a batch or its figures holds before it.
 pub const OUTPUT_FILL: u8 = 0xa5;
+/// How many bytes the programs that answer take as a table, a cut's output or a selection.
+pub const MOST_PART: usize = 4096;
 
 #[derive(Clone, Debug, PartialEq, Eq)]
 pub enum Question {
     Judge { table: Vec<u8> },
-    Cut { selection: u64, output_size: u16, table: Vec<u8> },
+    Cut { selection: Vec<u8>, output_size: u16, table: Vec<u8> },
     Append { in_use: u16, event: [u8; 16], buffer: Vec<u8> },
     Fetch { asked: u16, table: Vec<u8> },
     Batch { output_size: u16, batch: Vec<u8> },
@@ -48,7 +50,7 @@ impl Question {
         let fields = match self {
             Question::Judge { .. } => String::new(),
             Question::Cut { selection, output_size, .. } => {
-                format!(" selection {selection:#018x} output {output_size} bytes")
+                format!(" selection {} output {output_size} bytes", hex(selection))
             }
             Question::Append { in_use, event, .. } => format!(" in use {in_use} event {}", hex(event)),
             Question::Fetch { asked, .. } => format!(" record {asked}"),
@@ -68,7 +70,8 @@ impl Question {
             Question::Judge { .. } => bytes.push(b'J'),
             Question::Cut { selection, output_size, .. } => {
                 bytes.push(b'C');
-                bytes.extend(selection.to_le_bytes());
+                bytes.extend((selection.len() as u16).to_le_bytes());
+                bytes.extend(selection);
                 bytes.extend(output_size.to_le_bytes());
             }
             Question::Append { in_use, event, .. } => {
@@ -99,7 +102,7 @@ impl Question {
         let lines = match self {
             Question::Judge { table } => judge(table, depth),
             Question::Cut { selection, output_size, table } => written_to(*output_size, |output| {
-                cut(table, *selection, output, depth).map(|kept| format!("cut {kept}\n"))
+                cut(table, selection, output, depth).map(|kept| format!("cut {kept}\n"))
             }),
             Question::Append { in_use, event, buffer } => {
                 let mut buffer = buffer.clone();
@@ -155,7 +158,8 @@ impl<'a> Rest<'a> {
         Ok(u16::from_le_bytes(self.take(2)?.try_into().expect("two bytes")))
     }
 
-    fn take_table(&mut self) -> Result<Vec<u8>, String> {
+    /// A length and so many bytes: a table, a batch or a selection.
+    fn take_part(&mut self) -> Result<Vec<u8>, String> {
         let length = self.take_u16()? as usize;
         Ok(self.take(length)?.to_vec())
     }
@@ -167,20 +171,20 @@ pub fn all_questions(bytes: &[u8]) -> Result<Vec<Question>, String> {
     let mut list = Vec::new();
     while !rest.0.is_empty() {
         list.push(match rest.take(1)?[0] {
-            b'J' => Question::Judge { table: rest.take_table()? },
+            b'J' => Question::Judge { table: rest.take_part()? },
             b'C' => Question::Cut {
-                selection: u64::from_le_bytes(rest.take(8)?.try_into().expect("eight bytes")),
+                selection: rest.take_part()?,
                 output_size: rest.take_u16()?,
-                table: rest.take_table()?,
+                table: rest.take_part()?,
             },
             b'A' => Question::Append {
                 in_use: rest.take_u16()?,
                 event: rest.take(16)?.try_into().expect("sixteen bytes"),
-                buffer: rest.take_table()?,
+                buffer: rest.take_part()?,
             },
-            b'F' => Question::Fetch { asked: rest.take_u16()?, table: rest.take_table()? },
-            b'B' => Question::Batch { output_size: rest.take_u16()?, batch: rest.take_table()? },
-            b'M' => Question::Figures { output_size: rest.take_u16()?, batch: rest.take_table()? },
+            b'F' => Question::Fetch { asked: rest.take_u16()?, table: rest.take_part()? },
+            b'B' => Question::Batch { output_size: rest.take_u16()?, batch: rest.take_part()? },
+            b'M' => Question::Figures { output_size: rest.take_u16()?, batch: rest.take_part()? },
             other => return Err(format!("question {} has operation {other}", list.len())),
         });
     }

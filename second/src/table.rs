@@ -4,10 +4,12 @@ use crate::faults::{
     kind_or_order_fault, mark_fault, parent_or_thread_fault, range_fault, rest_fault, sibling_fault,
     source_fault,
 };
+use crate::wrong::{is_asked, Way};
 use crate::wrong_bytes::as_built;
 
 pub const RECORD_BYTES: usize = 16;
-pub const MOST_RECORDS: usize = 64;
+/// "Raise the limit to 200 records" (document 02, W5); the limits in bytes and of a selection come from it.
+pub const MOST_RECORDS: usize = 200;
 /// "255 for none": the byte of an absent parent or source.
 pub const NONE: u8 = 255;
 
@@ -101,9 +103,18 @@ pub fn refuse<T>(number: u8, place: usize) -> Result<T, Refusal> {
     Err(as_built(Refusal::at(number, place), &[]))
 }
 
-/// Refusal 1: "length 0, not a multiple of 16, or above 1,024".
+/// How many records this build takes: the limit, but for the judge that is wrong on purpose.
+pub fn most_records() -> usize {
+    if is_asked(Way::SixtyFour) {
+        64
+    } else {
+        MOST_RECORDS
+    }
+}
+
+/// Refusal 1: "length 0, not a multiple of 16, or above" the limit, which is 3,200 bytes.
 pub fn test_length(length: usize) -> Result<(), Refusal> {
-    if length == 0 || length % RECORD_BYTES != 0 || length > RECORD_BYTES * MOST_RECORDS {
+    if length == 0 || length % RECORD_BYTES != 0 || length > RECORD_BYTES * most_records() {
         return refuse(1, 0);
     }
     Ok(())

@@ -219,12 +219,13 @@ pub fn one_above(b: &mut Builder, base: u8, between: usize) -> [u8; 2] {
     [above, b.update(AR, last, token, 2)]
 }
 
-/// So many records in a row, the first and then each fifth the start of a thread. The last one.
+/// So many records in a row, the first and then each fifth the start of a thread while there are any. The last one.
 fn fill(b: &mut Builder, from: u8, records: usize) -> u8 {
     let filler = b.location();
     let mut last = from;
     for number in 0..records {
-        last = if number % 5 == 0 { b.thread(last) } else { b.load_u(NA, last, filler) };
+        let starts = number % 5 == 0 && b.has_thread();
+        last = if starts { b.thread(last) } else { b.load_u(NA, last, filler) };
     }
     last
 }

@@ -34,10 +34,20 @@ pub enum Way {
     ByteOfTable,
     /// A refusal names the second byte of a mark of which only that is wrong.
     SecondOfMark,
+    /// A table has at most 64 records, as it had before request W5.
+    SixtyFour,
+    /// Selections: record n is bit 7 - n mod 8 of its byte.
+    HighBitFirst,
+    /// Selections: one of another length is taken as if zero bytes followed or the bytes past it were not there.
+    AnyLength,
+    /// Selections: a wrong length is refused before the table is looked at.
+    LengthBeforeTable,
+    /// Selections: bits at or past the count are not looked at.
+    PastTheCount,
 }
 
 /// Each way and its name.
-pub const WAYS: [(&str, Way); 12] = [
+pub const WAYS: [(&str, Way); 17] = [
     ("ten-steps", Way::TenSteps),
     ("updates-in-conflict", Way::UpdatesInConflict),
     ("mark-of-short-header", Way::MarkOfShortHeader),
@@ -50,6 +60,11 @@ pub const WAYS: [(&str, Way); 12] = [
     ("byte-of-length", Way::ByteOfLength),
     ("byte-of-table", Way::ByteOfTable),
     ("second-of-mark", Way::SecondOfMark),
+    ("sixty-four", Way::SixtyFour),
+    ("high-bit-first", Way::HighBitFirst),
+    ("any-length", Way::AnyLength),
+    ("length-before-table", Way::LengthBeforeTable),
+    ("past-the-count", Way::PastTheCount),
 ];
 
 /// The way that was asked for; never one in a build without the feature.
