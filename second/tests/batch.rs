@@ -38,7 +38,7 @@ fn each_answer_is_the_one_that_the_table_gets_alone() {
     let reports: String = examples().iter().map(|e| alone(e.name)).collect();
     assert_eq!(text(&pack(&tables)), reports);
     let odd =
-        [example("E1"), vec![], example("E3")[..17].to_vec(), vec![0; 1040], vec![0; 16], example("E5")];
+        [example("E1"), vec![], example("E3")[..17].to_vec(), vec![0; 3216], vec![0; 16], example("E5")];
     let refusals = "refused 1 at 0\nrefused 1 at 0\nrefused 1 at 0\nrefused 2 at 0 byte 0\n";
     assert_eq!(text(&pack(&odd)), alone("E1") + refusals + &alone("E5"));
 }

@@ -12,6 +12,7 @@ use second::pack::pack;
 use second::questions::{split_answers, Question};
 use second::random::Random;
 use second::record::{init, load, load_u, put_written, store, update, update_u, Bytes};
+use second::selection::naming_first;
 use second::table::{read_table, Refusal, NONE};
 use second::text::judge;
 use second::wrong::{Way, WAYS};
@@ -193,12 +194,12 @@ fn record_0_names_its_bytes_as_others_do() {
 fn every_operation_passes_the_byte_on() {
     let damaged = table(a_load(), &[(13, 7)]);
     let refusal = Err(Refusal::at_byte(4, 2, 13));
-    assert_eq!(cut(&damaged, 1, &mut [], usize::MAX), refusal);
+    assert_eq!(cut(&damaged, &naming_first(1), &mut [], usize::MAX), refusal);
     assert_eq!(append(&mut damaged.clone(), 3, &init(1, 0)), refusal);
     let text = batch_text(&pack(&[example("E1"), damaged.clone()]), usize::MAX);
     assert_eq!(text, judge(&example("E1"), usize::MAX) + "refused 4 at 2 byte 13\n");
     let asked = [
-        (Question::Cut { selection: 1, output_size: 1, table: damaged.clone() }, "a5"),
+        (Question::Cut { selection: naming_first(1), output_size: 1, table: damaged.clone() }, "a5"),
         (Question::Append { in_use: 3, event: init(1, 0), buffer: damaged.clone() }, ""),
     ];
     for (question, output) in asked {
@@ -272,7 +273,10 @@ fn the_questions_of_several_seeds_name_every_byte_and_the_count_can_fail() {
 
 /// A class of byte and kind is one of those that can be.
 fn is_known(class: &str) -> bool {
-    let Some((refused, kind)) = class.split_once(": ") else { return true };
+    let Some((refused, kind)) = class.split_once(": ").filter(|(start, _)| start.contains("refused 4 byte"))
+    else {
+        return true;
+    };
     let byte: usize = refused.rsplit(' ').next().and_then(|byte| byte.parse().ok()).expect("a byte");
     RESTING.iter().any(|(known, bytes)| *known == kind && bytes.contains(&byte))
 }

@@ -4,14 +4,11 @@ use second::edit::{append, cut, fetch, fetch_refusal};
 use second::examples::{example, examples};
 use second::questions::{all_questions, split_answers, Question};
 use second::record::{init, load, store};
+use second::selection::{naming, naming_first};
 use second::table::{Refusal, NONE};
 
-fn selection(kept: &[u32]) -> u64 {
-    kept.iter().map(|n| 1u64 << n).sum()
-}
-
-fn cut_of(name: &str, kept: &[u32], output: &mut [u8]) -> Result<usize, Refusal> {
-    cut(&example(name), selection(kept), output, usize::MAX)
+fn cut_of(name: &str, kept: &[usize], output: &mut [u8]) -> Result<usize, Refusal> {
+    cut(&example(name), &naming(&kept.iter().copied().collect()), output, usize::MAX)
 }
 
 fn refusal(number: u8, place: usize) -> Refusal {
@@ -41,7 +38,7 @@ fn a_cut_writes_new_numbers_and_nothing_more() {
     assert_eq!(output[112..124], table[128..140]);
     assert!(output[128..].iter().all(|&byte| byte == 0xa5));
     let mut whole = [0; 192];
-    assert_eq!(cut(&table, 0xfff, &mut whole, usize::MAX), Ok(12));
+    assert_eq!(cut(&table, &naming_first(12), &mut whole, usize::MAX), Ok(12));
     assert_eq!(whole[..], table[..]);
 }
 
@@ -67,12 +64,51 @@ fn appends_that_are_refused() {
     assert_eq!(append(&mut buffer, 0, &init(0, NONE)), Ok(1));
     assert_eq!(append(&mut buffer, 1, &store(1, 0, 0, 0, 1)), Err(Refusal::at_byte(3, 1, 3)));
     assert_eq!(append(&mut buffer, 1, &load(0, 0, 0, 255, 0, 1)), Err(Refusal::at_byte(7, 1, 6)));
-    let mut full = init(0, NONE).to_vec();
-    for n in 0..63 {
-        full.extend(store(0, 0, n, 0, 1));
+}
+
+/// The root and then stores in a row.
+fn row(records: usize) -> Vec<u8> {
+    let mut table = init(0, NONE).to_vec();
+    (0..records - 1).for_each(|parent| table.extend(store(0, 0, parent as u8, 0, 1)));
+    table
+}
+
+#[test]
+fn appends_go_up_to_200_records() {
+    let next = store(0, 0, 198, 0, 1);
+    for (room, answer) in [(16, Ok(200)), (17, Ok(200)), (15, Err(refusal(11, 0))), (0, Err(refusal(11, 0)))]
+    {
+        let mut buffer = [row(199), vec![0xa5; room]].concat();
+        assert_eq!(append(&mut buffer, 199, &next), answer);
+        let written = if answer.is_ok() { row(200) } else { row(199) };
+        assert_eq!(buffer[..written.len()], written);
+        assert!(buffer[written.len()..].iter().all(|&byte| byte == 0xa5));
     }
-    assert_eq!(append(&mut full, 64, &init(1, 0)), Err(refusal(12, 0)));
-    assert_eq!(append(&mut full, 65, &init(1, 0)), Err(refusal(1, 0)));
+    for room in [0, 16, 32] {
+        let mut full = [row(200), vec![0xa5; room]].concat();
+        assert_eq!(append(&mut full, 200, &next), Err(refusal(12, 0)));
+        assert_eq!(append(&mut full, 201, &next), Err(refusal(1, 0)));
+        // A record in use goes first.
+        full[16 * 199 + 9] = 1;
+        assert_eq!(append(&mut full, 200, &next), Err(Refusal::at_byte(4, 199, 9)));
+    }
+    assert_eq!(append(&mut row(200)[..3199], 200, &next), Err(refusal(1, 0)));
+    // Itself and what is past it are no parent and no source of the last record.
+    for link in [199, 200, 254] {
+        let mut buffer = row(200);
+        assert_eq!(append(&mut buffer, 199, &store(0, 0, link, 0, 1)), Err(Refusal::at_byte(6, 199, 5)));
+        assert_eq!(append(&mut buffer, 199, &load(0, 0, 198, link, 0, 1)), Err(Refusal::at_byte(7, 199, 6)));
+    }
+}
+
+#[test]
+fn fetches_go_up_to_200_records() {
+    let full = row(200);
+    assert_eq!((fetch(&full, 199), fetch_refusal(&full, 199)), (&full[3184..], None));
+    for asked in [200, 255, 256 + 199] {
+        assert_eq!((fetch(&full, asked), fetch_refusal(&full, asked)), (&[][..], Some(refusal(13, asked))));
+    }
+    assert_eq!(fetch_refusal(&row(201), 0), Some(refusal(1, 0)));
 }
 
 #[test]
@@ -88,7 +124,7 @@ fn fetch_tests_only_1_and_13() {
 fn questions_come_back_as_they_were_written() {
     let mut list: Vec<Question> =
         examples().into_iter().map(|e| Question::Judge { table: e.bytes }).collect();
-    list.push(Question::Cut { selection: 7, output_size: 0, table: example("E2") });
+    list.push(Question::Cut { selection: naming_first(3), output_size: 0, table: example("E2") });
     list.push(Question::Append { in_use: 1, event: init(1, 0), buffer: vec![] });
     list.push(Question::Fetch { asked: 300, table: example("E2") });
     let bytes: Vec<u8> = list.iter().flat_map(|question| question.to_bytes()).collect();

@@ -31,7 +31,7 @@ fn eight_tables() -> Vec<u8> {
     let mut own_parent = example("E2");
     own_parent[16 * 4 + 5] = 4;
     let tables =
-        [example("E2"), vec![], example("E5"), example("E1"), vec![7; 1040], vec![0; 160], own_parent];
+        [example("E2"), vec![], example("E5"), example("E1"), vec![7; 3216], vec![0; 160], own_parent];
     pack(&[&tables[..], &[example("E4")]].concat())
 }
 
@@ -205,7 +205,7 @@ fn each_wrong_way_is_wrong_and_not_everywhere() {
     let right = "A5 0\nW 2\nconsistent 2\ninconsistent 1\nundefined 2\nlargest 9\n";
     assert!(text(&batch).starts_with("tables 9\n") && text(&batch).contains(right));
     let ways = [
-        (Way::LargestOfRefused, "largest 65\n"),
+        (Way::LargestOfRefused, "largest 201\n"),
         (Way::OneFinding, "W 1\n"),
         (Way::EndingCounted, "tables 10\n"),
         (Way::WrongVerdict, "inconsistent 3\nundefined 0\n"),

@@ -63,12 +63,16 @@ fn chain(records: usize) -> Vec<u8> {
 
 #[test]
 fn lengths_at_the_edges() {
-    assert_eq!(answer(&chain(64)), report(64, &[], "consistent"));
-    assert_eq!(answer(&chain(65)), "refused 1 at 0\n");
+    for records in [64, 65, 127, 128, 129, 199, 200] {
+        assert_eq!(answer(&chain(records)), report(records, &[], "consistent"));
+    }
+    assert_eq!(answer(&chain(201)), "refused 1 at 0\n");
+    assert_eq!(answer(&chain(200)[..3199]), "refused 1 at 0\n");
     assert_eq!(answer(&[]), "refused 1 at 0\n");
     assert_eq!(answer(&chain(2)[..17]), "refused 1 at 0\n");
-    assert_eq!(answer(&[0; 1024]), "refused 2 at 0 byte 0\n");
-    assert_eq!(answer(&[0; 1040]), "refused 1 at 0\n");
+    assert_eq!(answer(&[0; 1040]), "refused 2 at 0 byte 0\n");
+    assert_eq!(answer(&[0; 3200]), "refused 2 at 0 byte 0\n");
+    assert_eq!(answer(&[0; 3216]), "refused 1 at 0\n");
 }
 
 #[test]
@@ -82,15 +86,33 @@ fn threads_and_locations_at_the_edges() {
 }
 
 #[test]
-fn a_chain_of_64_is_followed_to_its_end() {
+fn a_chain_is_followed_to_its_end() {
     // A read of u at the end of a chain that began with a write of its location.
-    let mut table = vec![init(0, 255), store(0, 0, 0, 5, 1)];
-    for number in 2..63u8 {
-        table.push(load_u(0, 0, number - 1, 255, 0));
+    for records in [64, 65, 128, 200] {
+        let last = records - 1;
+        let mut table = vec![init(0, 255), store(0, 0, 0, 5, 1)];
+        for number in 2..last {
+            table.push(load_u(0, 0, number as u8 - 1, 255, 0));
+        }
+        table.push(load_u(0, 0, last as u8 - 1, 255, 5));
+        let found = last.to_string();
+        assert_eq!(answer(&table.concat()), report(records, &[("R", &found)], "inconsistent"));
+        assert_eq!(judge(&table.concat(), 10), report(records, &[], "consistent"));
     }
-    table.push(load_u(0, 0, 62, 255, 5));
-    assert_eq!(answer(&table.concat()), report(64, &[("R", "63")], "inconsistent"));
-    assert_eq!(judge(&table.concat(), 10), report(64, &[], "consistent"));
+}
+
+#[test]
+fn a_fault_in_the_last_of_200_records_is_told_there() {
+    let mut table = chain(200);
+    table[16 * 199 + 5] = 199;
+    assert_eq!(answer(&table), "refused 6 at 199 byte 5\n");
+    table[16 * 199 + 5] = 200;
+    assert_eq!(answer(&table), "refused 6 at 199 byte 5\n");
+    // The parent that a second child has already.
+    table[16 * 199 + 5] = 127;
+    assert_eq!(answer(&table), "refused 8 at 199 byte 5\n");
+    table[16 * 198 + 6] = 198;
+    assert_eq!(answer(&table), "refused 7 at 198 byte 6\n");
 }
 
 /// The root, a release store of 0 to X, threads 1 and 2 below it, and these records.

@@ -166,10 +166,10 @@ fn distance_keeps_no_update_from_another() {
         let (lines, [p, q]) = found(|b| one_above(b, 0, between));
         assert_eq!(lines, ["A1 1 2".to_string(), a5(p, q)]);
     }
-    for size in 6..=64 {
+    for size in 6..=200 {
         assert_eq!(lines_of(&far_apart(size)), [a5(3, size as u8 - 1)]);
     }
-    for size in 5..=64 {
+    for size in 5..=200 {
         assert_eq!(lines_of(&far_conflict(size)), [""; 0]);
     }
 }

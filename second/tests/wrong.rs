@@ -3,11 +3,12 @@
 use second::wrong::{asked, way_named, WAYS};
 use std::ffi::OsStr;
 
-const SCRIPTS: [&str; 4] = [
+const SCRIPTS: [&str; 5] = [
     include_str!("../compare-wrong.sh"),
     include_str!("../compare-wrong-batches.sh"),
     include_str!("../compare-wrong-figures.sh"),
     include_str!("../compare-wrong-bytes.sh"),
+    include_str!("../compare-wrong-selections.sh"),
 ];
 
 #[test]
