@@ -32,8 +32,12 @@ pub fn ask_large(seed: u64) -> Vec<Question> {
     for size in LEAST_LARGE..=MOST_RECORDS {
         list.push(Question::Judge { table: grown_to(&mut random, size).concat() });
     }
-    list.extend(LENGTHS.into_iter().flat_map(of_length));
     list
+}
+
+/// Tables of each of these lengths.
+pub fn ask_lengths() -> Vec<Question> {
+    LENGTHS.into_iter().flat_map(of_length).collect()
 }
 
 /// The bytes of a sound table cut off at this length, in every operation, and zeros of this length. Above the limit

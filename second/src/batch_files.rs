@@ -67,8 +67,8 @@ fn each_finding(random: &mut Random) -> Vec<Vec<u8>> {
     tables.chunks(20).map(pack).collect()
 }
 
-/// Every large pattern, in another order where there is one, in batches of as many as always fit; and as many full
-/// tables as fit.
+/// Every large pattern, in another order where there is one: more than ten files, as a tenth of all should have one;
+/// and as many full tables as fit.
 fn large_tables(seed: u64) -> Vec<Vec<u8>> {
     let mut random = large_random(seed.rotate_left(16));
     let mut any_order = |pattern: &Pattern| match pattern.can_be_relisted {
@@ -77,10 +77,10 @@ fn large_tables(seed: u64) -> Vec<Vec<u8>> {
     };
     let tables: Vec<Vec<u8>> =
         SIZES.into_iter().flat_map(patterns).map(|pattern| any_order(&pattern)).collect();
-    let at_once = MOST_BYTES / (HEADER_BYTES + RECORD_BYTES * MOST_RECORDS);
+    let mut list: Vec<Vec<u8>> = tables.chunks(tables.len() / 10).map(pack).collect();
+    let fit = MOST_BYTES / (HEADER_BYTES + RECORD_BYTES * MOST_RECORDS);
     let full: Vec<Vec<u8>> = patterns(MOST_RECORDS).iter().map(|pattern| pattern.table.concat()).collect();
-    let mut list: Vec<Vec<u8>> = tables.chunks(at_once).map(pack).collect();
-    list.push(pack(&full.iter().cycle().take(at_once).collect::<Vec<_>>()));
+    list.push(pack(&full.iter().cycle().take(fit).collect::<Vec<_>>()));
     list
 }
 

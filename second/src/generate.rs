@@ -4,7 +4,7 @@ use crate::ask_batches::ask_batches;
 use crate::ask_bytes::ask_bytes;
 use crate::ask_figures::ask_figures;
 use crate::ask_full::ask_full;
-use crate::ask_large::ask_large;
+use crate::ask_large::{ask_large, ask_lengths};
 use crate::ask_large_cuts::ask_large_cuts;
 use crate::ask_selections::ask_selections;
 use crate::asking::{ask_append, ask_cut, ask_fetch, closed_selection, some_of, unsettle};
@@ -30,6 +30,7 @@ pub fn generate(seed: u64, count: usize) -> Vec<Question> {
     let mut random = Random::new(seed);
     let mut list: Vec<Question> = examples().into_iter().map(|e| judged(e.bytes)).collect();
     list.extend(edges());
+    list.extend(ask_lengths());
     list.extend(gadget_tables(&mut random));
     list.extend(each_refusal(&mut random));
     list.extend(fixed_edits(&mut random));

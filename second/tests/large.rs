@@ -1,7 +1,7 @@
 //! Large tables: the patterns show what they are made for, and the questions about them keep to what can be asked.
 
 use second::ask_full::ask_full;
-use second::ask_large::ask_large;
+use second::ask_large::{ask_large, ask_lengths};
 use second::builder::THREADS;
 use second::count::Counts;
 use second::count_full::required_of_full;
@@ -104,7 +104,7 @@ fn tables_that_can_lack_something_lack_nothing_yet() {
 #[test]
 fn the_questions_of_several_seeds_miss_nothing() {
     for seed in [1, 2, 3, 2026] {
-        let questions = [ask_large(seed), ask_full(seed)].concat();
+        let questions = [ask_large(seed), ask_lengths(), ask_full(seed)].concat();
         assert!(questions.len() < 800, "{} questions take too long", questions.len());
         let text: String = questions.iter().map(|question| question.answer(usize::MAX)).collect();
         let answers = split_answers(&questions, &text).expect("whole answers");
