@@ -61,11 +61,17 @@ fn of_small_table(length: usize) -> Vec<Question> {
     list
 }
 
-/// Selections of this length for a full table: of the whole, or of what the length still names.
+/// Selections of this length for a full table: of the whole, or of what the length still names; for one that is
+/// refused at its last record; and for one above the limit.
 fn of_full_table(length: usize) -> Vec<Question> {
     let table = far_read(MOST_RECORDS).concat();
+    let above = far_read(MOST_RECORDS + 1).concat();
     let mut refused = table.clone();
     refused[RECORD_BYTES * (MOST_RECORDS - 1)] ^= 1;
     let whole = resized(naming_first(MOST_RECORDS), length);
-    vec![ask(whole.clone(), table.len(), &table), ask(whole, table.len(), &refused)]
+    vec![
+        ask(whole.clone(), table.len(), &table),
+        ask(whole.clone(), table.len(), &refused),
+        ask(whole, RECORD_BYTES, &above),
+    ]
 }

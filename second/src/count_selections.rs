@@ -13,7 +13,7 @@ pub fn reached_by_cut(selection: &[u8], output_size: usize, table: &[u8], answer
     let line = &answer[0];
     let sound = match read_table(table) {
         Ok(records) => records,
-        Err(refusal) => return reached_before_selection(selection, refusal, line).into_iter().collect(),
+        Err(refusal) => return reached_before_selection(selection, table, refusal, line),
     };
     if selection.len() != SELECTION_BYTES {
         return reached_by_wrong_length(selection, output_size, table, line);
@@ -44,7 +44,7 @@ fn length_class(length: usize, what: &str) -> String {
 }
 
 fn full_class(length: usize, what: &str) -> String {
-    format!("selection of {length} bytes for {MOST_RECORDS} records: {what}")
+    format!("selection of {length} bytes for {MOST_RECORDS} records or more: {what}")
 }
 
 fn large_class(size: usize, what: &str) -> String {
@@ -52,9 +52,16 @@ fn large_class(size: usize, what: &str) -> String {
 }
 
 /// The table's refusal, which goes before the selection's.
-fn reached_before_selection(selection: &[u8], refusal: Refusal, line: &str) -> Option<String> {
-    let is_told = refusal_line(refusal).trim_end() == line;
-    is_told.then(|| length_class(selection.len(), &format!("table refused {}", refusal.number)))
+fn reached_before_selection(selection: &[u8], table: &[u8], refusal: Refusal, line: &str) -> Vec<String> {
+    if refusal_line(refusal).trim_end() != line {
+        return Vec::new();
+    }
+    let what = format!("table refused {}", refusal.number);
+    let mut reached = vec![length_class(selection.len(), &what)];
+    if table.len() >= RECORD_BYTES * MOST_RECORDS {
+        reached.push(full_class(selection.len(), &what));
+    }
+    reached
 }
 
 /// Refused 9 for the length, and what the selection would be refused with if it had the right one.
@@ -139,8 +146,8 @@ fn lack_class(lack: Lack) -> String {
 pub fn required_of_cuts() -> Vec<String> {
     let mut list: Vec<String> = EACH_LENGTH.chain(LONG).flat_map(required_of_length).collect();
     for length in OF_FULL {
-        let what = if length == SELECTION_BYTES { "cut" } else { "refused 9" };
-        list.push(full_class(length, what));
+        let sound = if length == SELECTION_BYTES { "cut" } else { "refused 9" };
+        list.extend([sound, "table refused 1", "table refused 2"].map(|what| full_class(length, what)));
     }
     for size in SIZES {
         let kept = ["whole", "part with the last", "part without the last", "output exact", "output longer"];
