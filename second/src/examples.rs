@@ -1,7 +1,9 @@
-//! The small structures E1 to E10 of document 01 and E11 of document 02, as bytes, and a batch of them.
+//! The small structures E1 to E10 of document 01 and E11 of document 02, as bytes, a batch of them, and a table as large as there may be.
 
+use crate::gadgets::far_read;
 use crate::pack::pack;
 use crate::record::{init, load, load_u, store, update, Bytes};
+use crate::table::MOST_RECORDS;
 
 const NA: u8 = 0;
 const ACQ: u8 = 1;
@@ -34,6 +36,15 @@ pub fn examples() -> Vec<Example> {
         ("E11", "two updates take one token: A5 at 4 5 only", e11()),
     ];
     list.into_iter().map(|(name, shows, records)| Example { name, shows, bytes: records.concat() }).collect()
+}
+
+/// A chain of as many records as a table may have (W5): its last record is 198 steps of po below the write of its location.
+pub fn longest_chain() -> Example {
+    Example {
+        name: "far",
+        shows: "200 records, each the parent of the next; the last is a read of u, 198 steps below the write that it should have seen: R at 199 only",
+        bytes: far_read(MOST_RECORDS).concat(),
+    }
 }
 
 /// The bytes of one example by its name.

@@ -1,11 +1,11 @@
-//! second-examples DIR: writes E1 to E11 as tables, a batch of them, and a README that says what each shows.
+//! second-examples DIR: writes E1 to E11 and the longest chain as tables, a batch, and a README that says what each shows.
 
-use second::examples::{examples, night};
+use second::examples::{examples, longest_chain, night};
 use std::fs;
 use std::path::Path;
 use std::process::exit;
 
-const OPENING: &str = "# The small structures of document 01, and E11 of document 02 (W2)\n\n\
+const OPENING: &str = "# The small structures of document 01, E11 of document 02 (W2), and a table of 200 records (W5)\n\n\
 Each `.table` is a whole table, sixteen bytes a record; `night.batch` is a batch of tables. `second-examples DIR` (in `second/`) writes them again.\n\n";
 
 fn main() -> std::io::Result<()> {
@@ -16,7 +16,7 @@ fn main() -> std::io::Result<()> {
     };
     fs::create_dir_all(folder)?;
     let mut readme = OPENING.to_string();
-    for example in examples() {
+    for example in examples().into_iter().chain([longest_chain()]) {
         let file = format!("{}.table", example.name);
         fs::write(Path::new(folder).join(&file), &example.bytes)?;
         readme += &format!("- `{file}`: {}.\n", example.shows);
