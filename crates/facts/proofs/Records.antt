@@ -10,6 +10,9 @@ use Rattle.model.specs.WellFormed.{WellFormed}
 use Rattle.table.specs.Events.{eventsOf}
 use Rattle.facts.specs.Sound.{One, Two, Counted, Placed}
 
+pub square-within : {n m : ℕ} → n ≤ m → n * n ≤ m * m
+square-within {n} {m} h = le-trans (mul-le-mul-left n h) (mul-le-mul-right m h)
+
 module _ {b : List ℕ} {n : ℕ} (counted : Counted b n) where
   pub formed : WellFormed (eventsOf b)
   formed = counted .sound .formed
@@ -24,7 +27,7 @@ module _ {b : List ℕ} {n : ℕ} (counted : Counted b n) where
   few = omega (arith, counted .all, counted .sound .few)
 
   pub square-few : n * n ≤ limit * limit
-  square-few = le-trans (mul-le-mul-left n few) (mul-le-mul-right limit few)
+  square-few = square-within few
 
 module _ {b : List ℕ} {a c : ℕ} (two : Two b a c) where
   pub first-of : One b a

@@ -4,9 +4,12 @@ use findings::Finding;
 use findings::Findings;
 use findings::Found;
 use limits::LIMIT;
+use limits::SMALL;
 use relations::make_all;
 use shown::pairs::shows_pair;
 use shown::reads::unjustified;
+ghost use Prim.Native.Nat.{_≤_};
+ghost use Rattle.limits.specs.Limit.{small};
 ghost use Rattle.laws.specs.Witness.{PairWith};
 ghost use Rattle.findings.specs.declared.Finding.the-variants.{R};
 ghost use Rattle.findings.specs.Meant.{Finds};
@@ -16,6 +19,7 @@ ghost use Rattle.table.specs.Events.{eventsOf};
 ghost use Rattle.facts.specs.Sound.{Counted};
 ghost use Rattle.judge.specs.Answer.{Roomy};
 ghost use Rattle.relations.specs.Given.{Given, Pairing};
+ghost use Rattle.relations.specs.Worked.{Lent};
 ghost use Rattle.judge.specs.Parts.{Lending, PairShows, FoundAll};
 
 // R: the least read that is not justified.
@@ -81,8 +85,56 @@ fn find_in(
     }
 }
 
-// What is found of each finding of a sound table; the cycle of A1 in the first buffer, that of A4 in the second.
-pub fn find_all(table: &[u8], n: usize, first: &mut [u8], second: &mut [u8]) -> Findings
+// What is found of each finding of a sound table, its relations in lent room; the cycle of A1 in the first buffer, that of A4 in the second.
+fn find_within(
+    table: &[u8],
+    n: usize,
+    po: &mut [u8],
+    cf: &mut [u8],
+    hb: &mut [u8],
+    race: &mut [u8],
+    wb0: &mut [u8],
+    wb: &mut [u8],
+    sc: &mut [u8],
+    first: &mut [u8],
+    second: &mut [u8],
+) -> Findings
+    requires { ⌜ Counted (now table) n × Roomy (now first) (now second) × Lent n (now po) (now cf) (now hb) (now race) (now wb0) (now wb) (now sc) ⌝ }
+    ensures { λ x. ⌜ FoundAll (eventsOf (now (table .entry))) (now (first .entry)) (now (first .exit)) (now (second .entry)) (now (second .exit)) x ⌝ }
+{
+    make_all(table, n, po, cf, hb, race, wb0, wb, sc);
+    find_in(table, n, cf, hb, race, wb0, sc, first, second)
+}
+
+// In room for a small table: less is to be cleared.
+fn find_small(table: &[u8], n: usize, first: &mut [u8], second: &mut [u8]) -> Findings
+    requires { ⌜ Counted (now table) n × Roomy (now first) (now second) × (n ≤ small) ⌝ }
+    ensures { λ x. ⌜ FoundAll (eventsOf (now (table .entry))) (now (first .entry)) (now (first .exit)) (now (second .entry)) (now (second .exit)) x ⌝ }
+{
+    let mut po = [0u8; SMALL * SMALL];
+    let mut cf = [0u8; SMALL * SMALL];
+    let mut hb = [0u8; SMALL * SMALL];
+    let mut race = [0u8; SMALL * SMALL];
+    let mut wb0 = [0u8; SMALL * SMALL];
+    let mut wb = [0u8; SMALL * SMALL];
+    let mut sc = [0u8; SMALL * SMALL];
+    find_within(
+        table,
+        n,
+        &mut po,
+        &mut cf,
+        &mut hb,
+        &mut race,
+        &mut wb0,
+        &mut wb,
+        &mut sc,
+        first,
+        second,
+    )
+}
+
+// In room for any table.
+fn find_large(table: &[u8], n: usize, first: &mut [u8], second: &mut [u8]) -> Findings
     requires { ⌜ Counted (now table) n × Roomy (now first) (now second) ⌝ }
     ensures { λ x. ⌜ FoundAll (eventsOf (now (table .entry))) (now (first .entry)) (now (first .exit)) (now (second .entry)) (now (second .exit)) x ⌝ }
 {
@@ -93,7 +145,7 @@ pub fn find_all(table: &[u8], n: usize, first: &mut [u8], second: &mut [u8]) -> 
     let mut wb0 = [0u8; LIMIT * LIMIT];
     let mut wb = [0u8; LIMIT * LIMIT];
     let mut sc = [0u8; LIMIT * LIMIT];
-    make_all(
+    find_within(
         table,
         n,
         &mut po,
@@ -103,6 +155,18 @@ pub fn find_all(table: &[u8], n: usize, first: &mut [u8], second: &mut [u8]) -> 
         &mut wb0,
         &mut wb,
         &mut sc,
-    );
-    find_in(table, n, &cf, &hb, &race, &wb0, &sc, first, second)
+        first,
+        second,
+    )
+}
+
+// The same, with room of its own.
+pub fn find_all(table: &[u8], n: usize, first: &mut [u8], second: &mut [u8]) -> Findings
+    requires { ⌜ Counted (now table) n × Roomy (now first) (now second) ⌝ }
+    ensures { λ x. ⌜ FoundAll (eventsOf (now (table .entry))) (now (first .entry)) (now (first .exit)) (now (second .entry)) (now (second .exit)) x ⌝ }
+{
+    if n <= SMALL {
+        return find_small(table, n, first, second);
+    }
+    find_large(table, n, first, second)
 }

@@ -4,3 +4,7 @@ use Prim.Native.Nat.{ℕ}
 -- "Raise the limit to 200 records, 3,200 bytes"
 abbrev pub limit : ℕ
 limit = 200
+
+-- how many a small one has at most; no answer depends on it
+abbrev pub small : ℕ
+small = 64
