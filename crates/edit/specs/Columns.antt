@@ -16,7 +16,7 @@ use Rattle.relations.specs.Given.{Given}
 use Rattle.edit.specs.declared.completeness.Lack.{Lack}
 use Rattle.edit.specs.declared.completeness.Lack.the-variants.{Nothing, Record}
 
--- ---- which records are kept
+-- ---- what is lacking
 
 -- a selection that has a bit for each record, and the matrices that tell of racing writes
 pub record Judging (b : List ℕ) (count : ℕ) (s hb race : List ℕ) : Type 0 where

@@ -3,7 +3,6 @@ use mathlib.Core.Path.{_≡_}
 use Prim.Native.Nat.{ℕ, _-_, _<_, _≤_}
 use native.Mathlib.Omega.{arith}
 use lib.Dec.{T}
-use denote.Ref.{now}
 use Rattle.laws.specs.Says.{Says}
 use Rattle.laws.proofs.Says.{says-is, says-and}
 use Rattle.selections.specs.Selection.{named}
