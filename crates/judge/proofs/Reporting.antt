@@ -19,7 +19,8 @@ use Rattle.model.specs.Table.{Table}
 use Rattle.model.specs.Findings.{Shows, VerdictIs}
 use Rattle.model.proofs.Verdicts.{undefined-by, inconsistent-by, consistent-by}
 use Rattle.table.specs.Events.{eventsOf}
-use Rattle.judge.specs.Parts.{FoundAll, anyFound, verdictBy, ReportOf}
+use Rattle.judging.specs.Verdict.{anyFound, verdictBy, verdictOf}
+use Rattle.judge.specs.Parts.{FoundAll, ReportOf}
 
 -- asked at each place, every finding is asked
 any-found : (x : Findings) → Says (anyFound x) ((f : Finding) × T (there (foundOf x f)))
@@ -30,7 +31,7 @@ any-found x = record {
 }
 
 module _ {t : Table} {before₁ after₁ before₂ after₂ : List ℕ} {x : Findings} (all : FoundAll t before₁ after₁ before₂ after₂ x) where
-  pub verdict-right : VerdictIs t (verdictBy (there (x .w)) (anyFound x))
+  verdict-right : VerdictIs t (verdictOf x)
   verdict-right = by (there (x .w)) (anyFound x) refl (any-found x)
     where
       least : (f : Finding) → LeastWitness (Shows t f) (all .each f .witness)
@@ -44,7 +45,7 @@ module _ {t : Table} {before₁ after₁ before₂ after₂ : List ℕ} {x : Fin
       by false false e s = consistent-by least (λ f. there-none (all .each f .means) (λ h. s .from (f, h)))
 
 pub report-right :
-    {b before₁ after₁ before₂ after₂ : List ℕ} {n : ℕ} {x : Findings} {verdict : Verdict} → n ≡ eventsOf b .count → FoundAll (eventsOf b) before₁ after₁ before₂ after₂ x → verdict ≡ verdictBy (there (x .w)) (anyFound x)
+    {b before₁ after₁ before₂ after₂ : List ℕ} {n : ℕ} {x : Findings} {verdict : Verdict} → n ≡ eventsOf b .count → FoundAll (eventsOf b) before₁ after₁ before₂ after₂ x → verdict ≡ verdictOf x
     → ReportOf b before₁ after₁ before₂ after₂ (record { events = n; findings = x; verdict = verdict })
 report-right {b} count all is = record {
   witness = λ f. all .each f .witness;

@@ -1,17 +1,13 @@
 -- What the parts of the judge ask of each other, and promise.
 use mathlib.Core.Path.{_≡_}
-use mathlib.Core.Bool.{Bool, true, false}
 use mathlib.Core.List.{List}
 use Prim.Native.Nat.{ℕ, _≤_}
 use lib.ListN.{length}
-use Rattle.laws.specs.Says.{anyBelow}
 use Rattle.laws.specs.Witness.{a-pair}
 use Rattle.findings.specs.declared.Finding.{Finding}
 use Rattle.findings.specs.declared.Finding.the-variants.{A1, A4}
 use Rattle.findings.specs.declared.Findings.{Findings}
-use Rattle.findings.specs.declared.Verdict.{Verdict}
-use Rattle.findings.specs.declared.Verdict.the-variants.{Undefined, Inconsistent, Consistent}
-use Rattle.findings.specs.Family.{inOrder, findingAt, foundOf, there}
+use Rattle.findings.specs.Family.{foundOf}
 use Rattle.findings.specs.Meant.{lent, Finds}
 use Rattle.model.specs.Table.{Table}
 use Rattle.model.specs.Relations.{Wb0, ScStep}
@@ -36,15 +32,6 @@ pub record FoundAll (t : Table) (before₁ after₁ before₂ after₂ : List �
   pub each : (f : Finding) → Finds (Shows t f) (foundOf x f)
   pub first : after₁ ≡ lent (each A1 .witness) before₁
   pub second : after₂ ≡ lent (each A4 .witness) before₂
-
--- whether any finding has a witness
-unfoldable pub anyFound : Findings → Bool
-anyFound x = anyBelow (λ place. there (foundOf x (findingAt place))) (length inOrder)
-
-abbrev pub verdictBy : Bool → Bool → Verdict
-verdictBy true any = Undefined
-verdictBy false true = Inconsistent
-verdictBy false false = Consistent
 
 -- x is the report of the table b, with the cycles in the two buffers
 pub record ReportOf (b before₁ after₁ before₂ after₂ : List ℕ) (x : Report) : Type 0 where

@@ -2,25 +2,21 @@
 mod searching;
 
 use crate::searching::find_all;
-use findings::Finding;
 use findings::Findings;
 use findings::Verdict;
-use limits::LIMIT;
+use judging::has_room;
+use judging::verdict_of;
 use record::places::SIZE;
 use refusals::Refusal;
 use table::Tested;
 use table::length_ok;
 use table::test_records;
-ghost use mathlib.Core.Path.{_≡_};
-ghost use Prim.Native.Nat.{_≤_};
 ghost use lib.Dec.{T};
 ghost use lib.ListN.{length};
-ghost use Rattle.limits.specs.Limit.{limit};
-ghost use Rattle.laws.specs.Says.{Says};
 ghost use Rattle.facts.specs.Sound.{Counted};
 ghost use Rattle.table.specs.Test.{lengthOk};
 ghost use Rattle.judge.specs.Answer.{Roomy, JudgeAnswer};
-ghost use Rattle.judge.specs.Parts.{anyFound, verdictBy, ReportOf};
+ghost use Rattle.judge.specs.Parts.{ReportOf};
 
 // What a judging finds; the records of the cycles stand in the two lent buffers.
 pub struct Report {
@@ -34,51 +30,18 @@ pub enum Judged {
     Reported(Report),
 }
 
-// Whether any finding has a witness.
-fn any_found(x: Findings) -> bool
-    ensures { λ r. ⌜ r ≡ anyFound x ⌝ }
-{
-    let mut any = false;
-    for place in 0..Finding::COUNT {
-        let found = x.of(Finding::at(place));
-        any = any | found.there();
-    }
-    any
-}
-
-// "undefined if W holds, else inconsistent if any other does, else consistent"
-fn verdict_by(w: bool, any: bool) -> Verdict
-    ensures { λ r. ⌜ r ≡ verdictBy w any ⌝ }
-{
-    if w {
-        return Verdict::Undefined;
-    }
-    if any {
-        return Verdict::Inconsistent;
-    }
-    Verdict::Consistent
-}
-
 // The whole report of a sound table of n records.
 fn report_of(table: &[u8], n: usize, first: &mut [u8], second: &mut [u8]) -> Report
     requires { ⌜ Counted (now table) n × Roomy (now first) (now second) ⌝ }
     ensures { λ r. ⌜ ReportOf (now (table .entry)) (now (first .entry)) (now (first .exit)) (now (second .entry)) (now (second .exit)) r ⌝ }
 {
     let found = find_all(table, n, first, second);
-    let w = found.w;
-    let verdict = verdict_by(w.there(), any_found(found));
+    let verdict = verdict_of(found);
     Report {
         events: n,
         findings: found,
         verdict: verdict,
     }
-}
-
-// "cycle buffers are at least 200 bytes"
-fn has_room(first: usize, second: usize) -> bool
-    ensures { λ r. ⌜ Says r ((limit ≤ first) × (limit ≤ second)) ⌝ }
-{
-    (LIMIT <= first) & (LIMIT <= second)
 }
 
 // The records, once the length and the room are right.

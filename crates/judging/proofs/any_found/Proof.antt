@@ -7,9 +7,9 @@ use borrow.Author.Needs.{needs}
 use lib.ListN.{length}
 use Rattle.laws.specs.Says.{anyBelow}
 use Rattle.findings.specs.Family.{inOrder, findingAt, foundOf, there}
-use Rattle.judge.specs.Parts.{anyFound}
-use Rattle.judge.proofs.any_found.Statement.{statement}
-use Rattle.judge.proofs.any_found.Tie as tie
+use Rattle.judging.specs.Verdict.{anyFound}
+use Rattle.judging.proofs.any_found.Statement.{statement}
+use Rattle.judging.proofs.any_found.Tie as tie
 
 abbrev Inv-loop : tie.InvT-loop
 Inv-loop x any₀ place₀ any place = (place ≤ length inOrder) × (any ≡ anyBelow (λ k. there (foundOf x (findingAt k))) place)

@@ -1,7 +1,7 @@
 -- `has_room` meets its contract: the two tests tell the two parts.
 use Rattle.laws.proofs.Says.{says-le, says-and}
-use Rattle.judge.proofs.has_room.Statement.{statement}
-use Rattle.judge.proofs.has_room.Tie as tie
+use Rattle.judging.proofs.has_room.Statement.{statement}
+use Rattle.judging.proofs.has_room.Tie as tie
 
 returns : tie.Need-returns
 returns c = says-and (says-le _ _) (says-le _ _)

@@ -1,0 +1,2 @@
+-- The verdict as a function of what was found.
+pub mod Verdict
