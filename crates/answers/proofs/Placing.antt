@@ -6,9 +6,10 @@ use native.Mathlib.Omega.{arith}
 use lib.ListN.{length, take, drop, length-drop, drop-of-length-le}
 use lib.Seq.{drop-drop, take-length}
 use Rattle.refusals.specs.declared.Refusal.{Refusal}
-use Rattle.lines.specs.declared.Wrote.{Wrote}
-use Rattle.lines.specs.declared.Wrote.the-variants.{Refused, Length}
-use Rattle.lines.specs.Answer.{Writes, WriteAnswer}
+use Rattle.phrases.specs.declared.Wrote.{Wrote}
+use Rattle.phrases.specs.declared.Wrote.the-variants.{Refused, Length}
+use Rattle.phrases.specs.Handed.{Writes}
+use Rattle.lines.specs.Answer.{WriteAnswer}
 use Rattle.lines.proofs.Answering.{text-within}
 use Rattle.answers.specs.Room.{TextPut}
 

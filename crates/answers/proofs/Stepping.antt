@@ -11,12 +11,12 @@ use Rattle.batches.specs.declared.Ending.the-variants as ending
 use Rattle.batches.proofs.Standing.{inside, refusal-small}
 use Rattle.judge.specs.declared.Judged.{Judged}
 use Rattle.judge.specs.Answer.{Roomy}
+use Rattle.phrases.specs.Phrases.{refusedText}
+use Rattle.phrases.proofs.Lengths.{refused-short}
 use Rattle.lines.specs.Room.{longest}
-use Rattle.lines.specs.Lines.{refusedText}
 use Rattle.lines.specs.Judged.{judgedText, JudgedWhole}
 use Rattle.lines.proofs.Telling.{judged-there}
 use Rattle.lines.proofs.Answering.{text-short}
-use Rattle.lines.proofs.Lengths.{refused-short}
 use Rattle.answers.specs.declared.Step.{Step}
 use Rattle.answers.specs.declared.Step.the-variants as step
 use Rattle.answers.specs.Answer.{StepAnswer, answered, ended}

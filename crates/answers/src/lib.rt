@@ -9,8 +9,8 @@ use batches::MOST;
 use batches::item_at;
 use judge::Judged;
 use judge::judge;
-use lines::Wrote;
 use lines::write_answer;
+use phrases::Wrote;
 use refusals::Refusal;
 use text::put;
 

@@ -2,7 +2,7 @@
 ghost use Prim.Native.Nat.{_≤_};
 ghost use lib.ListN.{length};
 use batches::MOST;
-use lines::Wrote;
+use phrases::Wrote;
 use sheet::SHEET;
 use sheet::write_figures;
 

@@ -18,11 +18,14 @@ use Rattle.table.proofs.Front.{right-length}
 use Rattle.table.proofs.WellFormed.{sound-count}
 use Rattle.facts.proofs.Promise.{sound-table}
 use Rattle.text.specs.Text.{Written}
-use Rattle.lines.specs.Lines.{reportText, refusedText}
-use Rattle.lines.specs.Room.{Room, longest}
+use Rattle.phrases.specs.Phrases.{refusedText}
+use Rattle.phrases.specs.Room.{Room}
+use Rattle.phrases.proofs.Lengths.{refused-short, record-short}
+use Rattle.phrases.proofs.Handing.{front-there}
+use Rattle.lines.specs.Lines.{reportText}
+use Rattle.lines.specs.Room.{longest}
 use Rattle.lines.specs.Answer.{TextOf, TextAt}
-use Rattle.lines.proofs.Lengths.{refused-short, record-short, report-short}
-use Rattle.lines.proofs.Handing.{front-there}
+use Rattle.lines.proofs.Lengths.{report-short}
 
 -- ---- every text fits
 

@@ -17,7 +17,8 @@ use Rattle.findings.specs.Family.{nameOf, inSecond, foundOf}
 use Rattle.findings.specs.Meant.{Means, record-of, pair-of, cycle-of, lent}
 use Rattle.model.specs.Table.{Table}
 use Rattle.model.specs.Findings.{Shows, Report, Reports}
-use Rattle.lines.specs.Lines.{line, witnessText, findingLine}
+use Rattle.phrases.specs.Phrases.{line}
+use Rattle.lines.specs.Lines.{witnessText, findingLine}
 use Rattle.lines.specs.Witnesses.{witnessIn, Whole, bufferOf, witnesses, AllWhole}
 use Rattle.model.proofs.Shown.{Stands, no-buffer-for-one, no-buffer-for-two, in-its-buffer, stands}
 

@@ -10,10 +10,11 @@ use Rattle.model.proofs.Unique.{one-report}
 use Rattle.table.specs.declared.Tested.the-variants as tested
 use Rattle.table.specs.Events.{eventsOf}
 use Rattle.table.proofs.Unique.{test-one}
-use Rattle.lines.specs.Lines.{reportText, refusedText}
-use Rattle.lines.specs.declared.Wrote.{Wrote}
+use Rattle.phrases.specs.Phrases.{refusedText}
+use Rattle.phrases.specs.declared.Wrote.{Wrote}
+use Rattle.phrases.proofs.Handing.{OneResult, writes-one}
+use Rattle.lines.specs.Lines.{reportText}
 use Rattle.lines.specs.Answer.{TextOf, WriteAnswer}
-use Rattle.lines.proofs.Handing.{OneResult, writes-one}
 
 -- no table is both refused and sound
 apart : {A : Type 0} {r : Refusal} {n : ℕ} → tested.Refused r ≡ tested.Sound n → A

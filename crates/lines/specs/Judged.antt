@@ -6,7 +6,8 @@ use Rattle.refusals.specs.Numbers.{told}
 use Rattle.judge.specs.declared.Report.{Report}
 use Rattle.judge.specs.declared.Judged.{Judged}
 use Rattle.judge.specs.declared.Judged.the-variants.{Refused, Reported}
-use Rattle.lines.specs.Lines.{reportText, refusedText}
+use Rattle.phrases.specs.Phrases.{refusedText}
+use Rattle.lines.specs.Lines.{reportText}
 use Rattle.lines.specs.Witnesses.{witnesses, AllWhole}
 
 -- the line of its refusal, or its report

@@ -7,10 +7,8 @@ use Rattle.findings.specs.declared.Finding.{Finding}
 use Rattle.findings.specs.declared.Verdict.{Verdict}
 use Rattle.findings.specs.declared.Verdict.the-variants.{Undefined, Inconsistent, Consistent}
 use Rattle.findings.specs.Family.{inOrder, nameOf}
-use Rattle.refusals.specs.declared.Byte.{Byte}
-use Rattle.refusals.specs.declared.Byte.the-variants.{Unnamed, Named}
-use Rattle.refusals.specs.declared.Told.{Told}
 use Rattle.text.specs.Text.{each, spaced, spacedEach}
+use Rattle.phrases.specs.Phrases.{line}
 
 -- ---- the words, in ASCII
 
@@ -32,21 +30,7 @@ verdictText Undefined = 32 ∷ 117 ∷ 110 ∷ 100 ∷ 101 ∷ 102 ∷ 105 ∷ 1
 verdictText Inconsistent = 32 ∷ 105 ∷ 110 ∷ 99 ∷ 111 ∷ 110 ∷ 115 ∷ 105 ∷ 115 ∷ 116 ∷ 101 ∷ 110 ∷ 116 ∷ []
 verdictText Consistent = 32 ∷ 99 ∷ 111 ∷ 110 ∷ 115 ∷ 105 ∷ 115 ∷ 116 ∷ 101 ∷ 110 ∷ 116 ∷ []
 
--- "refused", " at", " byte"
-abbrev pub refusedWord : List ℕ
-refusedWord = 114 ∷ 101 ∷ 102 ∷ 117 ∷ 115 ∷ 101 ∷ 100 ∷ []
-
-abbrev pub atWord : List ℕ
-atWord = 32 ∷ 97 ∷ 116 ∷ []
-
-abbrev pub byteWord : List ℕ
-byteWord = 32 ∷ 98 ∷ 121 ∷ 116 ∷ 101 ∷ []
-
 -- ---- the lines
-
--- a name, what stands after it, and one line end
-abbrev pub line : List ℕ → List ℕ → List ℕ
-line name rest = name ++ (rest ++ (10 ∷ []))
 
 -- "`none` or its numbers"
 abbrev pub witnessText : Option Witness → List ℕ
@@ -66,19 +50,3 @@ linesOf witness = each (findingLine witness)
 unfoldable pub reportText : ℕ → (Finding → Option Witness) → Verdict → List ℕ
 reportText count witness verdict =
     line eventsWord (spaced count) ++ (linesOf witness inOrder ++ line verdictWord (verdictText verdict))
-
--- a record's byte, where one is named
-abbrev pub byteText : Byte → List ℕ
-byteText Unnamed = []
-byteText (Named i) = byteWord ++ spaced i
-
--- the place, and the byte there
-abbrev pub whereText : Told → List ℕ
-whereText told = spaced (told .place) ++ byteText (told .byte)
-
-abbrev pub placeText : Told → List ℕ
-placeText told = spaced (told .number) ++ (atWord ++ whereText told)
-
--- "A refused table gives one line, as `refused 6 at 3`." With a byte it is as "`refused 4 at 17 byte 9`".
-unfoldable pub refusedText : Told → List ℕ
-refusedText told = line refusedWord (placeText told)

@@ -1,13 +1,8 @@
--- Room for a text, and for the longest.
-use mathlib.Core.List.{List}
-use Prim.Native.Nat.{ℕ, _+_, _*_, _≤_}
+-- Room for the longest text.
+use Prim.Native.Nat.{ℕ, _+_, _*_}
 use lib.ListN.{length}
 use Rattle.limits.specs.Limit.{limit}
 use Rattle.findings.specs.Family.{inOrder}
-
--- the text has room from `at` on
-abbrev pub Room : List ℕ → ℕ → List ℕ → Type 0
-Room out at text = at + length text ≤ length out
 
 -- no text is longer: the lines of the count and of the verdict, and for each finding its name, `none` or a space and three digits for each record, and
 -- the line end

@@ -10,8 +10,9 @@ ghost use Prim.Native.Nat.{_≤_};
 ghost use lib.ListN.{take};
 ghost use Rattle.text.specs.Text.{Written};
 ghost use Rattle.findings.specs.Family.{inOrder, nameOf};
-ghost use Rattle.lines.specs.Lines.{line, witnessText, linesOf};
-ghost use Rattle.lines.specs.Room.{Room};
+ghost use Rattle.phrases.specs.Phrases.{line};
+ghost use Rattle.phrases.specs.Room.{Room};
+ghost use Rattle.lines.specs.Lines.{witnessText, linesOf};
 ghost use Rattle.lines.specs.Witnesses.{witnessIn, Whole, bufferOf, witnesses, AllWhole};
 
 // What stands after a finding's name; the records of a cycle stand at the front of `records`.

@@ -8,7 +8,7 @@ use answers::Answers;
 use answers::Run;
 use answers::write_answers;
 use batches::Ending;
-use lines::Wrote;
+use phrases::Wrote;
 use programs::say;
 use sheet::write_figures;
 

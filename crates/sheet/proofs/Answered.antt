@@ -3,7 +3,8 @@ use mathlib.Core.List.{List, map}
 use Prim.Native.Nat.{ℕ}
 use Rattle.batches.specs.Batch.{End}
 use Rattle.batches.specs.Answers.{Each, none-left, and-then, AnswersOf}
-use Rattle.lines.specs.Lines.{reportText, refusedText}
+use Rattle.phrases.specs.Phrases.{refusedText}
+use Rattle.lines.specs.Lines.{reportText}
 use Rattle.lines.specs.Answer.{TextOf}
 use Rattle.tally.specs.Answer.{Answer, refused, reported, AnswerOf, by-test, by-judging}
 

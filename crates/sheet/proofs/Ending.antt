@@ -4,7 +4,7 @@ use mathlib.Core.List.{_++_}
 use borrow.Author.Tests.{ne-eqb}
 use Rattle.refusals.specs.declared.Told.{Told}
 use Rattle.batches.specs.Batch.{refused}
-use Rattle.lines.specs.Lines.{refusedText}
+use Rattle.phrases.specs.Phrases.{refusedText}
 use Rattle.tally.specs.declared.Figures.{Figures}
 use Rattle.sheet.specs.Sheet.{figuresText, sheetText}
 

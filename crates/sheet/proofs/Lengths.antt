@@ -21,8 +21,8 @@ use Rattle.table.specs.Events.{countOf}
 use Rattle.table.specs.Test.{TestAnswer, wrong-length, records, RecordsAnswer, sound}
 use Rattle.table.proofs.Front.{right-length}
 use Rattle.text.specs.Text.{each, spaced}
-use Rattle.lines.specs.Lines.{line, refusedWord, refusedText}
-use Rattle.lines.proofs.Lengths.{decimal-3, decimal-5, line-length, refused-short}
+use Rattle.phrases.specs.Phrases.{line, refusedWord, refusedText}
+use Rattle.phrases.proofs.Lengths.{decimal-3, decimal-5, line-length, refused-short}
 use Rattle.tally.specs.declared.Figures.{Figures}
 use Rattle.tally.specs.Answer.{Answer, AnswerOf, by-test, by-judging}
 use Rattle.tally.specs.Figures as tally

@@ -6,9 +6,9 @@ use native.Mathlib.Omega.{arith}
 use lib.ListN.{length}
 use Rattle.refusals.specs.declared.Refusal.{Refusal}
 use Rattle.batches.specs.Batch.{endOf}
-use Rattle.lines.specs.declared.Wrote.the-variants.{Refused}
-use Rattle.lines.specs.Room.{Room}
-use Rattle.lines.specs.Answer.{Writes}
+use Rattle.phrases.specs.declared.Wrote.the-variants.{Refused}
+use Rattle.phrases.specs.Room.{Room}
+use Rattle.phrases.specs.Handed.{Writes}
 use Rattle.tally.specs.declared.Figures.{Figures}
 use Rattle.tally.specs.Figures.{figuresOf}
 use Rattle.monday.specs.declared.Monday.{Monday}

@@ -3,8 +3,8 @@ use mathlib.Core.Path.{_≡_, ap₂}
 use mathlib.Core.List.{List}
 use Prim.Native.Nat.{ℕ}
 use Rattle.batches.proofs.Answering.{answers-one}
-use Rattle.lines.specs.declared.Wrote.{Wrote}
-use Rattle.lines.proofs.Handing.{OneResult, writes-one}
+use Rattle.phrases.specs.declared.Wrote.{Wrote}
+use Rattle.phrases.proofs.Handing.{OneResult, writes-one}
 use Rattle.tally.specs.Answer.{Answer, AnswerOf}
 use Rattle.tally.specs.Figures.{figuresOf}
 use Rattle.tally.proofs.Unique.{answer-one}

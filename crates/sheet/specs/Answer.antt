@@ -5,8 +5,8 @@ use lib.ListN.{length}
 use Rattle.findings.specs.Family.{inOrder}
 use Rattle.batches.specs.Batch.{End}
 use Rattle.batches.specs.Answers.{AnswersOf}
-use Rattle.lines.specs.declared.Wrote.{Wrote}
-use Rattle.lines.specs.Answer.{Writes}
+use Rattle.phrases.specs.declared.Wrote.{Wrote}
+use Rattle.phrases.specs.Handed.{Writes}
 use Rattle.tally.specs.Answer.{Answer, AnswerOf}
 use Rattle.tally.specs.Figures.{numbers, figuresOf}
 use Rattle.sheet.specs.Sheet.{sheetText}

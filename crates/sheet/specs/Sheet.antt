@@ -8,7 +8,7 @@ use Rattle.findings.specs.declared.Finding.{Finding}
 use Rattle.findings.specs.Family.{inOrder, placeOf, nameOf}
 use Rattle.batches.specs.Batch.{End, cleanly, refused}
 use Rattle.text.specs.Text.{each, spaced}
-use Rattle.lines.specs.Lines.{line, refusedWord, refusedText}
+use Rattle.phrases.specs.Phrases.{line, refusedWord, refusedText}
 use Rattle.tally.specs.declared.Figures.{Figures}
 use Rattle.tally.specs.Figures.{numbers}
 

@@ -3,8 +3,8 @@ ghost use Prim.Native.Nat.{_≤_};
 ghost use lib.ListN.{length};
 use limits::LIMIT;
 use lines::TEXT;
-use lines::Wrote;
 use lines::write_answer;
+use phrases::Wrote;
 use record::places::SIZE;
 
 // One record more than a table may have: a longer input is refused by what is read of it.

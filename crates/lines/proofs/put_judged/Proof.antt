@@ -7,10 +7,10 @@ use Rattle.judge.specs.declared.Report.{Report}
 use Rattle.judge.specs.declared.Judged.{Judged}
 use Rattle.judge.specs.declared.Judged.the-variants.{Reported}
 use Rattle.text.proofs.Laws.{written-text}
-use Rattle.lines.specs.Lines.{refusedText}
+use Rattle.phrases.specs.Phrases.{refusedText}
+use Rattle.phrases.proofs.Pieces.{room-as}
 use Rattle.lines.specs.Witnesses.{AllWhole}
 use Rattle.lines.specs.Judged.{judgedText, JudgedWhole, all-cycles}
-use Rattle.lines.proofs.Pieces.{room-as}
 use Rattle.lines.proofs.put_judged.Statement.{statement}
 use Rattle.lines.proofs.put_judged.Tie as tie
 

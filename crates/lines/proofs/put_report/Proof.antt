@@ -6,9 +6,10 @@ use Rattle.findings.specs.declared.Findings.{Findings}
 use Rattle.findings.specs.declared.Verdict.{Verdict}
 use Rattle.findings.specs.Family.{inOrder}
 use Rattle.text.specs.Text.{spaced}
-use Rattle.lines.specs.Lines.{line, eventsWord, verdictWord, verdictText, linesOf, reportText}
+use Rattle.phrases.specs.Phrases.{line}
+use Rattle.phrases.proofs.Pieces.{first-room, second-room, third-room, all-three}
+use Rattle.lines.specs.Lines.{eventsWord, verdictWord, verdictText, linesOf, reportText}
 use Rattle.lines.specs.Witnesses.{witnesses}
-use Rattle.lines.proofs.Pieces.{first-room, second-room, third-room, all-three}
 use Rattle.lines.proofs.put_report.Statement.{statement}
 use Rattle.lines.proofs.put_report.Tie as tie
 

@@ -6,8 +6,9 @@ use native.Mathlib.Omega.{arith}
 use borrow.Author.Needs.{needs}
 use Rattle.text.proofs.Laws.{written-text}
 use Rattle.findings.specs.declared.Verdict.{Verdict}
-use Rattle.lines.specs.Lines.{line, verdictWord, verdictText}
-use Rattle.lines.proofs.Pieces.{room-as}
+use Rattle.phrases.specs.Phrases.{line}
+use Rattle.phrases.proofs.Pieces.{room-as}
+use Rattle.lines.specs.Lines.{verdictWord, verdictText}
 use Rattle.lines.proofs.verdict_line.Statement.{statement}
 use Rattle.lines.proofs.verdict_line.Tie as tie
 

@@ -1,8 +1,8 @@
 -- `write_answer` meets its contract: the text is made aside, and handed over.
 use mathlib.Core.Path.{sym}
 use borrow.Author.Needs.{needs}
+use Rattle.phrases.proofs.Handing.{front-long, writes-such}
 use Rattle.lines.specs.Answer.{TextOf}
-use Rattle.lines.proofs.Handing.{front-long, writes-such}
 use Rattle.lines.proofs.write_answer.Statement.{statement}
 use Rattle.lines.proofs.write_answer.Tie as tie
 

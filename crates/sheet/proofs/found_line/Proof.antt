@@ -7,7 +7,7 @@ use borrow.Author.Needs.{needs}
 use lib.ListN.{length}
 use Rattle.text.specs.Text.{spaced}
 use Rattle.text.proofs.Laws.{written-text}
-use Rattle.lines.specs.Lines.{line}
+use Rattle.phrases.specs.Phrases.{line}
 use Rattle.sheet.proofs.found_line.Statement.{statement}
 use Rattle.sheet.proofs.found_line.Tie as tie
 

@@ -10,7 +10,7 @@ use Rattle.findings.specs.Family.{inOrder, placeOf, findingAt, nameOf}
 use Rattle.findings.proofs.Family.{place-at}
 use Rattle.text.specs.Text.{Written, each, spaced}
 use Rattle.text.proofs.Laws.{written-length, written-text, written-nothing, each-room, each-more}
-use Rattle.lines.specs.Lines.{line}
+use Rattle.phrases.specs.Phrases.{line}
 use Rattle.sheet.specs.Sheet.{foundLine}
 use Rattle.sheet.proofs.found_lines.Statement.{statement}
 use Rattle.sheet.proofs.found_lines.Tie as tie

@@ -4,8 +4,8 @@ use Prim.Native.Nat.{ℕ}
 use borrow.Author.Needs.{needs}
 use Rattle.findings.specs.Family.{inOrder}
 use Rattle.text.specs.Text.{each, spaced}
-use Rattle.lines.specs.Lines.{line}
-use Rattle.lines.proofs.Pieces.{first-room, second-room, third-room, all-three}
+use Rattle.phrases.specs.Phrases.{line}
+use Rattle.phrases.proofs.Pieces.{first-room, second-room, third-room, all-three}
 use Rattle.tally.specs.declared.Figures.{Figures}
 use Rattle.tally.specs.Figures.{numbers}
 use Rattle.sheet.specs.Sheet.{tablesWord, refusedLine, foundLine}

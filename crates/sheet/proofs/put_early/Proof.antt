@@ -2,9 +2,9 @@
 use mathlib.Core.Path.{sym, subst}
 use borrow.Author.Needs.{needs}
 use Rattle.text.proofs.Laws.{written-text, written-then}
-use Rattle.lines.specs.Lines.{refusedText}
-use Rattle.lines.specs.Room.{Room}
-use Rattle.lines.proofs.Pieces.{room-front, room-back}
+use Rattle.phrases.specs.Phrases.{refusedText}
+use Rattle.phrases.specs.Room.{Room}
+use Rattle.phrases.proofs.Pieces.{room-front, room-back}
 use Rattle.sheet.specs.Sheet.{figuresText}
 use Rattle.sheet.proofs.Ending.{only-refused, both}
 use Rattle.sheet.proofs.put_early.Statement.{statement}

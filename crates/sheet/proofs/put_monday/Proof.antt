@@ -1,6 +1,6 @@
 -- `put_monday` meets its contract: the text of the figures has room.
 use borrow.Author.Needs.{needs}
-use Rattle.lines.proofs.Handing.{front-there}
+use Rattle.phrases.proofs.Handing.{front-there}
 use Rattle.sheet.specs.Answer.{SheetOf}
 use Rattle.sheet.proofs.Telling.{told-sheet, sheet-room}
 use Rattle.sheet.proofs.put_monday.Statement.{statement}

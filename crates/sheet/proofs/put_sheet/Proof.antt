@@ -7,7 +7,7 @@ use Rattle.refusals.specs.declared.Told.{Told}
 use Rattle.batches.specs.declared.Ending.{Ending}
 use Rattle.batches.specs.Batch.{refused, endOf}
 use Rattle.text.proofs.Laws.{written-text}
-use Rattle.lines.proofs.Pieces.{room-as}
+use Rattle.phrases.proofs.Pieces.{room-as}
 use Rattle.tally.specs.declared.Figures.{Figures}
 use Rattle.sheet.specs.Sheet.{sheetText}
 use Rattle.sheet.proofs.put_sheet.Statement.{statement}

@@ -2,7 +2,7 @@
 use borrow.Author.Needs.{needs}
 use Rattle.text.specs.Text.{spaced}
 use Rattle.text.proofs.Laws.{written-then}
-use Rattle.lines.proofs.Pieces.{room-front, room-back}
+use Rattle.phrases.proofs.Pieces.{room-front, room-back}
 use Rattle.sheet.proofs.put_two.Statement.{statement}
 use Rattle.sheet.proofs.put_two.Tie as tie
 

@@ -3,8 +3,8 @@ use mathlib.Core.List.{List}
 use Prim.Native.Nat.{ℕ}
 use borrow.Author.Needs.{needs}
 use Rattle.text.specs.Text.{spaced}
-use Rattle.lines.specs.Lines.{line}
-use Rattle.lines.proofs.Pieces.{first-room, second-room, third-room, all-three}
+use Rattle.phrases.specs.Phrases.{line}
+use Rattle.phrases.proofs.Pieces.{first-room, second-room, third-room, all-three}
 use Rattle.tally.specs.declared.Figures.{Figures}
 use Rattle.sheet.specs.Sheet.{consistentWord, inconsistentWord, undefinedWord}
 use Rattle.sheet.proofs.put_verdicts.Statement.{statement}

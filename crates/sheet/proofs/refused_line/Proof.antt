@@ -3,8 +3,8 @@ use mathlib.Core.List.{List, [], _∷_, _++_}
 use Prim.Native.Nat.{ℕ}
 use borrow.Author.Needs.{needs}
 use Rattle.text.specs.Text.{spaced}
-use Rattle.lines.specs.Lines.{refusedWord}
-use Rattle.lines.proofs.Pieces.{first-room, second-room, third-room, all-three}
+use Rattle.phrases.specs.Phrases.{refusedWord}
+use Rattle.phrases.proofs.Pieces.{first-room, second-room, third-room, all-three}
 use Rattle.sheet.proofs.refused_line.Statement.{statement}
 use Rattle.sheet.proofs.refused_line.Tie as tie
 

@@ -6,7 +6,7 @@ use native.Mathlib.Omega.{arith}
 use lib.ListN.{length, take, getD}
 use Rattle.text.specs.Text.{Written, each, spaced}
 use Rattle.text.proofs.Laws.{written-length, written-text, written-nothing, each-room, each-more}
-use Rattle.lines.specs.Lines.{line, refusedWord}
+use Rattle.phrases.specs.Phrases.{line, refusedWord}
 use Rattle.tally.specs.Figures.{numbers}
 use Rattle.tally.proofs.Laws.{number-at}
 use Rattle.sheet.specs.Sheet.{refusedLine}

@@ -1,7 +1,7 @@
 -- `write_figures` meets its contract: the text is made aside, and handed over.
 use mathlib.Core.Path.{sym}
 use borrow.Author.Needs.{needs}
-use Rattle.lines.proofs.Handing.{front-long, writes-such}
+use Rattle.phrases.proofs.Handing.{front-long, writes-such}
 use Rattle.sheet.specs.Answer.{SheetOf}
 use Rattle.sheet.proofs.write_figures.Statement.{statement}
 use Rattle.sheet.proofs.write_figures.Tie as tie

@@ -1,6 +1,6 @@
 -- `tweedstile::answer` is safe and ends: what was written has room in what was lent.
 use borrow.Author.Needs.{needs}
-use Rattle.lines.proofs.Written.{length-within}
+use Rattle.phrases.proofs.Written.{length-within}
 use Rattle.tweedstile.proofs.answer.Statement.{statement}
 use Rattle.tweedstile.proofs.answer.Tie as tie
 

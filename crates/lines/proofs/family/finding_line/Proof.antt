@@ -2,9 +2,9 @@
 use mathlib.Core.List.{[], _∷_}
 use borrow.Author.Needs.{needs}
 use Rattle.findings.specs.Family.{nameOf}
+use Rattle.phrases.proofs.Pieces.{first-room, second-room, third-room, all-three}
 use Rattle.lines.specs.Lines.{witnessText}
 use Rattle.lines.specs.Witnesses.{witnessIn}
-use Rattle.lines.proofs.Pieces.{first-room, second-room, third-room, all-three}
 use Rattle.lines.proofs.family.finding_line.Statement.{statement}
 use Rattle.lines.proofs.family.finding_line.Tie as tie
 

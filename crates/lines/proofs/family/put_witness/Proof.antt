@@ -6,9 +6,9 @@ use borrow.Author.Needs.{needs}
 use Rattle.findings.specs.declared.Found.{Found}
 use Rattle.text.specs.Text.{spaced}
 use Rattle.text.proofs.Laws.{written-text, written-then}
+use Rattle.phrases.proofs.Pieces.{room-front, room-back, room-as}
 use Rattle.lines.specs.Lines.{witnessText}
 use Rattle.lines.specs.Witnesses.{witnessIn, Whole}
-use Rattle.lines.proofs.Pieces.{room-front, room-back, room-as}
 use Rattle.lines.proofs.family.put_witness.Statement.{statement}
 use Rattle.lines.proofs.family.put_witness.Tie as tie
 

@@ -1,6 +1,6 @@
 -- `ask::say_report` is safe and ends: what was written has room in what was lent.
 use borrow.Author.Needs.{needs}
-use Rattle.lines.proofs.Written.{length-within}
+use Rattle.phrases.proofs.Written.{length-within}
 use Rattle.questions.proofs.ask.say_report.Statement.{statement}
 use Rattle.questions.proofs.ask.say_report.Tie as tie
 

@@ -1,10 +1,10 @@
 -- `put_refused` meets its contract: `refused`, what is told, the line end.
 use mathlib.Core.List.{[], _∷_}
 use borrow.Author.Needs.{needs}
-use Rattle.lines.specs.Lines.{refusedWord, placeText, refusedText}
-use Rattle.lines.proofs.Pieces.{first-room, second-room, third-room, all-three}
-use Rattle.lines.proofs.put_refused.Statement.{statement}
-use Rattle.lines.proofs.put_refused.Tie as tie
+use Rattle.phrases.specs.Phrases.{refusedWord, placeText, refusedText}
+use Rattle.phrases.proofs.Pieces.{first-room, second-room, third-room, all-three}
+use Rattle.phrases.proofs.put_refused.Statement.{statement}
+use Rattle.phrases.proofs.put_refused.Tie as tie
 
 put-requires : tie.Need-put-requires
 unfolding refusedText

@@ -1,9 +1,9 @@
 -- `hand_over` meets its contract: the text is copied if it has room.
 use native.Mathlib.Omega.{arith}
 use borrow.Author.Needs.{needs}
-use Rattle.lines.proofs.Handing.{too-short, handed}
-use Rattle.lines.proofs.hand_over.Statement.{statement}
-use Rattle.lines.proofs.hand_over.Tie as tie
+use Rattle.phrases.proofs.Handing.{too-short, handed}
+use Rattle.phrases.proofs.hand_over.Statement.{statement}
+use Rattle.phrases.proofs.hand_over.Tie as tie
 
 returns : tie.Need-returns
 returns c =

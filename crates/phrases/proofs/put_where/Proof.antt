@@ -2,10 +2,10 @@
 use borrow.Author.Needs.{needs}
 use Rattle.text.specs.Text.{spaced}
 use Rattle.text.proofs.Laws.{written-then}
-use Rattle.lines.specs.Lines.{byteText}
-use Rattle.lines.proofs.Pieces.{room-front, room-back}
-use Rattle.lines.proofs.put_where.Statement.{statement}
-use Rattle.lines.proofs.put_where.Tie as tie
+use Rattle.phrases.specs.Phrases.{byteText}
+use Rattle.phrases.proofs.Pieces.{room-front, room-back}
+use Rattle.phrases.proofs.put_where.Statement.{statement}
+use Rattle.phrases.proofs.put_where.Tie as tie
 
 put-spaced-requires : tie.Need-put-spaced-requires
 put-spaced-requires c κs =

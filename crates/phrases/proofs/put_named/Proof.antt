@@ -3,10 +3,10 @@ use mathlib.Core.Path.{sym, ap}
 use borrow.Author.Needs.{needs}
 use Rattle.text.specs.Text.{spaced}
 use Rattle.text.proofs.Laws.{written-nothing, written-text, written-then}
-use Rattle.lines.specs.Lines.{byteWord, byteText}
-use Rattle.lines.proofs.Pieces.{room-front, room-back, room-as}
-use Rattle.lines.proofs.put_named.Statement.{statement}
-use Rattle.lines.proofs.put_named.Tie as tie
+use Rattle.phrases.specs.Phrases.{byteWord, byteText}
+use Rattle.phrases.proofs.Pieces.{room-front, room-back, room-as}
+use Rattle.phrases.proofs.put_named.Statement.{statement}
+use Rattle.phrases.proofs.put_named.Tie as tie
 
 put-requires : tie.Need-put-requires
 put-requires c κs =

@@ -4,9 +4,9 @@ use mathlib.Core.List.{List}
 use Prim.Native.Nat.{ℕ, _≤_}
 use native.Mathlib.Omega.{arith}
 use lib.ListN.{length, drop, length-append}
-use Rattle.lines.specs.declared.Wrote.{Wrote}
-use Rattle.lines.specs.declared.Wrote.the-variants.{Length}
-use Rattle.lines.specs.Answer.{Writes}
+use Rattle.phrases.specs.declared.Wrote.{Wrote}
+use Rattle.phrases.specs.declared.Wrote.the-variants.{Length}
+use Rattle.phrases.specs.Handed.{Writes}
 
 module _ {Such : List ℕ → Type 0} where
   length-of : {before after : List ℕ} {len : ℕ} → Writes Such before after (Length len) → len ≤ length after

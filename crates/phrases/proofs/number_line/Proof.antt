@@ -3,9 +3,9 @@ use mathlib.Core.List.{[], _∷_}
 use native.Mathlib.Omega.{arith}
 use borrow.Author.Needs.{needs}
 use Rattle.text.specs.Text.{spaced}
-use Rattle.lines.proofs.Pieces.{first-room, second-room, third-room, all-three}
-use Rattle.lines.proofs.number_line.Statement.{statement}
-use Rattle.lines.proofs.number_line.Tie as tie
+use Rattle.phrases.proofs.Pieces.{first-room, second-room, third-room, all-three}
+use Rattle.phrases.proofs.number_line.Statement.{statement}
+use Rattle.phrases.proofs.number_line.Tie as tie
 
 put-requires : tie.Need-put-requires
 put-requires c κs =

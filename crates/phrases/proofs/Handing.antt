@@ -10,10 +10,10 @@ use Rattle.refusals.specs.declared.Refusal.the-variants as refusal
 use Rattle.refusals.proofs.Known.{same-refusal}
 use Rattle.text.specs.Text.{Written}
 use Rattle.text.proofs.Laws.{written-length}
-use Rattle.lines.specs.Room.{Room}
-use Rattle.lines.specs.declared.Wrote.{Wrote}
-use Rattle.lines.specs.declared.Wrote.the-variants.{Refused, Length}
-use Rattle.lines.specs.Answer.{IsText, the-text, Front, Writes}
+use Rattle.phrases.specs.Room.{Room}
+use Rattle.phrases.specs.declared.Wrote.{Wrote}
+use Rattle.phrases.specs.declared.Wrote.the-variants.{Refused, Length}
+use Rattle.phrases.specs.Handed.{IsText, the-text, Front, Writes}
 
 -- ---- what was written from 0 on stands at the front
 

@@ -6,7 +6,7 @@ use native.Mathlib.Omega.{arith}
 use lib.ListN.{length-append}
 use Rattle.text.specs.Text.{Written}
 use Rattle.text.proofs.Laws.{written-length, written-then}
-use Rattle.lines.specs.Room.{Room}
+use Rattle.phrases.specs.Room.{Room}
 
 pub room-front : (out : List ℕ) (at : ℕ) (s u : List ℕ) → Room out at (s ++ u) → Room out at s
 room-front out at s u h = omega (arith, length-append s u)

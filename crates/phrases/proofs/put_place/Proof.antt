@@ -1,10 +1,10 @@
 -- `put_place` meets its contract: the number, `at`, where.
 use borrow.Author.Needs.{needs}
 use Rattle.text.specs.Text.{spaced}
-use Rattle.lines.specs.Lines.{atWord, whereText}
-use Rattle.lines.proofs.Pieces.{first-room, second-room, third-room, all-three}
-use Rattle.lines.proofs.put_place.Statement.{statement}
-use Rattle.lines.proofs.put_place.Tie as tie
+use Rattle.phrases.specs.Phrases.{atWord, whereText}
+use Rattle.phrases.proofs.Pieces.{first-room, second-room, third-room, all-three}
+use Rattle.phrases.proofs.put_place.Statement.{statement}
+use Rattle.phrases.proofs.put_place.Tie as tie
 
 put-spaced-requires : tie.Need-put-spaced-requires
 put-spaced-requires c κs =

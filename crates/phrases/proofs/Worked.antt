@@ -5,7 +5,7 @@ use Rattle.refusals.specs.declared.Fault.the-variants.{Rest}
 use Rattle.refusals.specs.declared.Refusal.the-variants.{Length, Record}
 use Rattle.refusals.specs.Numbers.{told}
 use Rattle.text.specs.Text.{digits, decimal}
-use Rattle.lines.specs.Lines.{refusedText}
+use Rattle.phrases.specs.Phrases.{refusedText}
 
 -- "refused 4 at 17 byte 9"
 pub byte-9-of-17 :
