@@ -60,7 +60,7 @@ pub fn append(buffer: &mut [u8], used: usize, new: Record) -> Appended
     let answered = answer(&buffer[..], used, new);
     match answered {
         Appended::Count(_) => {
-            record::write_at(buffer, used, new);
+            slots::write_at(buffer, used, new);
             answered
         }
         Appended::Refused(_) => answered,

@@ -30,7 +30,7 @@ pub fn fetch(table: &[u8], n: usize) -> &[u8]
     ensures { λ r. ⌜ now r ≡ fetched (now (table .entry)) n ⌝ }
 {
     match refusal_of_fetch(table, n) {
-        FetchTest::Given => table::part_at(table, n),
+        FetchTest::Given => slots::part_at(table, n),
         FetchTest::Refused(_) => &table[..0],
     }
 }

@@ -90,6 +90,6 @@ pub fn write(large: Large, count: u8, out: &mut [u8])
     requires { ⌜ recordSize * count ≤ length (now out) ⌝ }
 {
     for n in 0..count {
-        record::write_at(out, n as usize, record_of(large, n));
+        slots::write_at(out, n as usize, record_of(large, n));
     }
 }

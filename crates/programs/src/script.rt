@@ -106,6 +106,6 @@ pub fn write(script: &[u8], out: &mut [u8])
     requires { ⌜ recordSize * (length (now script) / 9) ≤ length (now out) ⌝ }
 {
     for n in 0..script.len() / WIDTH {
-        record::write_at(out, n, record_at(script, n));
+        slots::write_at(out, n, record_at(script, n));
     }
 }

@@ -15,7 +15,7 @@ use Rattle.limits.specs.Limit.{limit}
 use Rattle.table.specs.declared.Tested.{Tested}
 use Rattle.table.specs.Test.{lengthOk, Passes, CheckAnswer, RecordsAnswer, TestAnswer, records}
 use Rattle.table.specs.Computed.{checked}
-use Rattle.table.specs.Part.{AllStand}
+use Rattle.table.specs.Standing.{AllStand}
 use Rattle.table.proofs.Exact.{decodes-alike, check-exact}
 
 module _ (b : List ℕ) (count : ℕ) (held : 16 * count ≤ length b) where

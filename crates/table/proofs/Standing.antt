@@ -6,7 +6,7 @@ use native.Mathlib.Omega.{arith}
 use Rattle.record.specs.Form.{recordFrom, part}
 use Rattle.record.proofs.RoundTrip.{passed}
 use Rattle.table.specs.Events.{eventsOf}
-use Rattle.table.specs.Part.{Stands, AllStand}
+use Rattle.table.specs.Standing.{Stands, AllStand}
 use Rattle.table.specs.Test.{Decodes}
 use Rattle.table.proofs.Exact.{decoded-at}
 

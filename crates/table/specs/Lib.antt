@@ -2,5 +2,5 @@
 pub mod Events
 pub mod Test
 pub mod Computed
-pub mod Part
+pub mod Standing
 pub mod New

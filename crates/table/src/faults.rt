@@ -2,7 +2,7 @@
 ghost use mathlib.Core.Path.{_≡_};
 ghost use Rattle.table.specs.Computed.{rooted, stood, misplaced, parentFault, unfit, sourceFault, twinned, twinFault};
 ghost use Rattle.table.specs.Events.{eventsOf};
-ghost use Rattle.table.specs.Part.{Stands, AllStand};
+ghost use Rattle.table.specs.Standing.{Stands, AllStand};
 use crate::accesses::Access;
 use crate::accesses::branches;
 use crate::accesses::is_init;

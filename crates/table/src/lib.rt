@@ -12,7 +12,7 @@ ghost use Rattle.record.specs.Form.{recordSize, encode};
 ghost use Rattle.table.specs.Computed.{checked};
 ghost use Rattle.table.specs.Events.{eventsOf};
 ghost use Rattle.table.specs.New.{PassingUse};
-ghost use Rattle.table.specs.Part.{AllStand};
+ghost use Rattle.table.specs.Standing.{AllStand};
 ghost use Rattle.table.specs.Test.{lengthOk, CheckAnswer, RecordsAnswer, TestAnswer};
 use events::Record;
 use limits::LIMIT;
@@ -20,7 +20,6 @@ use record::Decoded;
 use record::places::SIZE;
 use refusals::Fault;
 use refusals::Refusal;
-pub use stored::part_at;
 pub use stored::record_at;
 
 // What the test of one record says.
@@ -78,7 +77,7 @@ pub fn test_records(table: &[u8], count: usize) -> Tested
     ensures { λ r. ⌜ RecordsAnswer (take (recordSize * count) (now (table .entry))) r ⌝ }
 {
     for n in 0..count {
-        match check_decoded(table, n, record::read_at(table, n)) {
+        match check_decoded(table, n, slots::read_at(table, n)) {
             Checked::Fine => {}
             Checked::Faulty(f) => {
                 return Tested::Refused(Refusal::Record(f, n));

@@ -1,26 +1,17 @@
-// What is read of a record that stands in a table: its bytes, its thread, its parent, all of it.
+// What is read of a record that stands in a table: its thread, its parent, all of it.
 ghost use mathlib.Core.Path.{_≡_};
 ghost use Prim.Native.Nat.{_+_, _*_, _≤_};
 ghost use lib.ListN.{length};
 ghost use Rattle.record.specs.Form.{recordSize};
 ghost use Rattle.table.specs.Events.{recordOf, eventsOf};
-ghost use Rattle.table.specs.Part.{Part, Stands};
+ghost use Rattle.table.specs.Standing.{Stands};
 use events::Event;
 use events::Link;
 use events::Record;
 use record::Decoded;
 use record::places::PARENT;
-use record::places::SIZE;
 use record::places::THREAD;
-
-// The sixteen bytes of record n.
-pub fn part_at(table: &[u8], n: usize) -> &[u8]
-    requires { ⌜ recordSize * n + recordSize ≤ length (now table) ⌝ }
-    ensures { λ r. ⌜ Part (now (table .entry)) n (now r) ⌝ }
-{
-    let at = SIZE * n;
-    &table[at..at + SIZE]
-}
+use slots::part_at;
 
 pub fn thread_at(table: &[u8], n: usize) -> u8
     requires { ⌜ Stands (now table) n ⌝ }
@@ -57,5 +48,5 @@ pub fn record_at(table: &[u8], n: usize) -> Record
     requires { ⌜ recordSize * n + recordSize ≤ length (now table) ⌝ }
     ensures { λ r. ⌜ r ≡ eventsOf (now (table .entry)) .at n ⌝ }
 {
-    record_of(record::read_at(table, n))
+    record_of(slots::read_at(table, n))
 }

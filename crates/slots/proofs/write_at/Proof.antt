@@ -1,4 +1,4 @@
--- `record::write_at` meets its contract: the copy fills the part that is the record, and nothing else.
+-- `write_at` meets its contract: the copy fills the part that is the record, and nothing else.
 use mathlib.Core.Path.{_≡_}
 use mathlib.Core.List.{[]}
 use Prim.Native.Nat.{_*_}
@@ -6,10 +6,10 @@ use native.Mathlib.Nat.{add-sub-cancel-left}
 use native.Mathlib.Omega.{arith}
 use lib.ListN.{take, drop, length-take, drop-of-length-le}
 use denote.Ref.{now}
 use Rattle.record.specs.Form.{encode}
 use borrow.Author.Needs.{needs}
-use Rattle.record.proofs.write_at.Statement.{statement}
-use Rattle.record.proofs.write_at.Tie as tie
+use Rattle.slots.proofs.write_at.Statement.{statement}
+use Rattle.slots.proofs.write_at.Tie as tie
 
 returns : tie.Need-returns
 unfolding encode

@@ -1,13 +1,13 @@
--- `record::read_at` meets its contract: the part that is read is sixteen bytes.
+-- `read_at` meets its contract: the part that is read is sixteen bytes.
 use mathlib.Core.Path.{ap, _∙_}
 use Prim.Native.Nat.{ℕ, _*_}
 use native.Mathlib.Nat.{add-sub-cancel-left}
 use lib.ListN.{take, drop}
 use denote.Ref.{now}
 use Rattle.record.specs.Form.{decode}
 use borrow.Author.Needs.{needs}
-use Rattle.record.proofs.read_at.Statement.{statement}
-use Rattle.record.proofs.read_at.Tie as tie
+use Rattle.slots.proofs.read_at.Statement.{statement}
+use Rattle.slots.proofs.read_at.Tie as tie
 
 returns : tie.Need-returns
 returns c =

@@ -1,4 +1,4 @@
--- `stored::part_at` meets its contract: the part is sixteen bytes.
+-- `parts::part_at` meets its contract: the part is sixteen bytes.
 use mathlib.Core.Path.{ap, _∙_}
 use Prim.Native.Nat.{ℕ, _*_}
 use native.Mathlib.Nat.{add-sub-cancel-left}
@@ -6,8 +6,8 @@ use lib.ListN.{length, take, drop}
 use denote.Ref.{now}
 use Rattle.record.proofs.Parts.{part-length}
 use borrow.Author.Needs.{needs}
-use Rattle.table.proofs.stored.part_at.Statement.{statement}
-use Rattle.table.proofs.stored.part_at.Tie as tie
+use Rattle.slots.proofs.parts.part_at.Statement.{statement}
+use Rattle.slots.proofs.parts.part_at.Tie as tie
 
 returns : tie.Need-returns
 returns c =

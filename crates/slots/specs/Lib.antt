@@ -1,0 +1,2 @@
+-- The part of a table that is a record.
+pub mod Part
