@@ -1,0 +1,4 @@
+-- What the questions on two records tell.
+pub mod LastStep
+pub mod Climb
+pub mod Meet
