@@ -1,0 +1,40 @@
+-- `sequential::sc_column_by` meets its contract: the first x bytes are written.
+use mathlib.Core.Path.{_≡_}
+use Prim.Native.Nat.{_-_, _≤_}
+use native.Mathlib.Omega.{arith}
+use borrow.Author.Needs.{needs}
+use Rattle.model.specs.Relations.{ScStep}
+use Rattle.table.specs.Events.{eventsOf}
+use Rattle.tracing.specs.Layers.{Column}
+use Rattle.tracing.proofs.Layering.{flagged-none, flagged-more}
+use Rattle.tracing.proofs.sequential.sc_column_by.Statement.{statement}
+use Rattle.tracing.proofs.sequential.sc_column_by.Tie as tie
+
+abbrev Inv-loop : tie.InvT-loop
+Inv-loop table n wb y col₀ x₀ col x = (x ≤ n) × Column (ScStep (eventsOf table)) x y col₀ col
+
+abbrev μ-loop : tie.MeasureT-loop
+μ-loop table n wb y col₀ x₀ col x = n - x
+
+sc-step-requires : tie.Need-sc-step-requires Inv-loop μ-loop
+sc-step-requires c κs =
+    let q = c .before .before .before .before .before .pre in
+    record { at = record { table = q .row .table; col = c .loop-test .taken; row = q .row .inside }; room = q .room; steps = q .steps }
+
+slice-write-col : tie.Need-slice-write-col Inv-loop μ-loop
+slice-write-col c = omega (arith, c .before .before .before .loop .inv .1 .size)
+
+loop-again : tie.Need-loop-again Inv-loop μ-loop
+loop-again c =
+    (omega arith, rw (c .flag .ensures) (flagged-more (omega arith) (c .before .sc-step .ensures) (c .before .before .before .loop .inv .1)))
+
+returns : tie.Need-returns Inv-loop μ-loop
+returns c =
+    let e : c .before .loop .x ≡ c .before .before .before .before .before .args .n = omega arith in
+    rw e at (c .before .loop .inv .1)
+
+pub sc-column-by-spec : {M : Type 1} → statement M
+sc-column-by-spec =
+    tie.close
+    (tie.spec Inv-loop μ-loop (λ c. (omega arith, flagged-none)) sc-step-requires (λ c κs. search needs) slice-write-col (λ c. omega arith) (λ c. omega arith)
+    loop-again (λ c. c .before .loop .inv .1 .size) returns)
