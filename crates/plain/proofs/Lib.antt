@@ -1,0 +1,3 @@
+-- The laws of the plain engine.
+pub mod Reading
+pub mod Agrees

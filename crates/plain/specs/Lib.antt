@@ -1,0 +1,2 @@
+-- What the plain engine's questions on reads tell.
+pub mod Reads
