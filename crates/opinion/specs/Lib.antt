@@ -1,0 +1,2 @@
+-- The third opinion's text.
+pub mod Opinion
