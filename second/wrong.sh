@@ -2,7 +2,7 @@
 # them, the one that is wrong in the way that WRONG names (target/wrong); and the comparisons of the two.
 set -eu
 unset WRONG
-programs="second-batch second-figures second-questions"
+programs="second-batch second-figures second-questions second-twin"
 cargo build --release --offline --quiet
 cargo build --release --offline --quiet --features wrong --target-dir target/wrong $(printf -- '--bin %s ' $programs)
 right=$PWD/target/release

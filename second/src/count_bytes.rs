@@ -159,6 +159,11 @@ pub fn required_of_judged_bytes() -> Vec<String> {
     list
 }
 
+/// Each byte that a judged table's refusal can name.
+pub fn required_of_named() -> Vec<String> {
+    NAMED.map(|named| named_class(JUDGED, named)).to_vec()
+}
+
 fn required_in_tables(standing: &str) -> Vec<String> {
     let mut list: Vec<String> = NAMED.map(|named| named_class(standing, named)).to_vec();
     for (kind, bytes) in RESTING {

@@ -1,6 +1,7 @@
 //! The seven findings with their least witnesses, the verdict, and what stands on a race.
 
-use crate::relations::{closure, matrix, turned, Matrix, Relations};
+use crate::cycles::least_cycle;
+use crate::relations::{matrix, Matrix, Relations};
 use crate::table::{Kind, Order, Record};
 use crate::wrong::{is_asked, Way};
 
@@ -119,7 +120,7 @@ fn took_one_token(records: &[Record], rel: &Relations, p: usize, q: usize) -> bo
 }
 
 /// "hbsc, wb and fr together, among SC records"
-fn sc_steps(records: &[Record], rel: &Relations) -> Matrix {
+pub fn sc_steps(records: &[Record], rel: &Relations) -> Matrix {
     matrix(records.len(), |a, b| {
         records[a].order == Order::Sc
             && records[b].order == Order::Sc
@@ -137,52 +138,4 @@ fn least_pair(size: usize, fits: impl Fn(usize, usize) -> bool) -> Option<(usize
         }
     }
     None
-}
-
-/// "The witness has fewest records, and of those is the least list, number by number."
-/// Of rounds with equally many records, the one with the least first record is the least list.
-pub fn least_cycle(step: &Matrix) -> Option<Vec<usize>> {
-    let reached = closure(step);
-    let back = turned(step);
-    let mut least: Option<Vec<usize>> = None;
-    for start in (0..step.len()).filter(|&record| reached[record][record]) {
-        let round = least_round(step, &distances_to(&back, start), start);
-        if least.as_ref().is_none_or(|found| round.len() < found.len()) {
-            least = Some(round);
-        }
-    }
-    least
-}
-
-/// The fewest steps from each record to the target, found breadth first. `back` has the steps turned.
-fn distances_to(back: &Matrix, target: usize) -> Vec<Option<usize>> {
-    let mut distance = vec![None; back.len()];
-    distance[target] = Some(0);
-    let mut reached = vec![target];
-    let mut done = 0;
-    while done < reached.len() {
-        let b = reached[done];
-        for a in 0..back.len() {
-            if back[b][a] && distance[a].is_none() {
-                distance[a] = distance[b].map(|steps| steps + 1);
-                reached.push(a);
-            }
-        }
-        done += 1;
-    }
-    distance
-}
-
-/// The least of the shortest rounds from the start, which is on one: always the least next record from which the
-/// way back is just long enough. A round of the fewest steps never meets a record twice, or a shorter one would exist.
-fn least_round(step: &Matrix, distance: &[Option<usize>], start: usize) -> Vec<usize> {
-    let next_of = |here: usize| (0..step.len()).filter(move |&b| step[here][b]);
-    let length = 1 + next_of(start).filter_map(|b| distance[b]).min().expect("the start is on a round");
-    let mut list = vec![start];
-    while list.len() < length {
-        let left = length - list.len();
-        let next = next_of(list[list.len() - 1]).find(|&b| distance[b] == Some(left));
-        list.push(next.expect("the way back was found before"));
-    }
-    list
 }

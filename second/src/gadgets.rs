@@ -71,6 +71,26 @@ pub fn conflicting_sources(b: &mut Builder, base: u8) {
 /// A4 alone: E3 with so many threads, a cycle of twice as many; one more if a third thread watches
 /// the first store instead of the storing thread going on itself.
 pub fn sc_ring(b: &mut Builder, base: u8, threads: usize, watched: bool) {
+    sc_ring_with(b, base, threads, if watched { First::Watched } else { First::Started });
+}
+
+/// The same cycle in one record less: the thread that the others start from is one of them.
+pub fn home_sc_ring(b: &mut Builder, base: u8, threads: usize) {
+    sc_ring_with(b, base, threads, First::AtHome);
+}
+
+/// Where the first two records of a ring of SC records stand.
+#[derive(Clone, Copy, PartialEq, Eq)]
+enum First {
+    /// In a thread of their own.
+    Started,
+    /// Each in a thread of its own.
+    Watched,
+    /// In the thread that starts the others.
+    AtHome,
+}
+
+fn sc_ring_with(b: &mut Builder, base: u8, threads: usize, first: First) {
     let places: Vec<u8> = (0..threads).map(|_| b.location()).collect();
     let mut last = base;
     let old: Vec<u8> = places
@@ -81,9 +101,9 @@ pub fn sc_ring(b: &mut Builder, base: u8, threads: usize, watched: bool) {
         })
         .collect();
     for i in 0..threads {
-        let thread = b.thread(last);
+        let thread = if i == 0 && first == First::AtHome { last } else { b.thread(last) };
         let mut here = b.store(SC, thread, places[i], 1);
-        if watched && i == 0 {
+        if i == 0 && first == First::Watched {
             let watcher = b.thread(last);
             here = b.load(SC, watcher, here);
         }

@@ -198,7 +198,7 @@ pub fn any_size_table(random: &mut Random) -> Vec<Bytes> {
 /// A table of any shape that is not large, well-formed or damaged.
 pub fn any_table(random: &mut Random) -> Vec<Bytes> {
     let mut table = match random.below(10) {
-        0 | 1 => grown_on_findings(random),
+        0 | 1 => grown_on_findings(random, LEAST_LARGE - 1),
         2 => {
             let built = sized_tables();
             let chosen = random.below(built.len());
@@ -227,13 +227,13 @@ fn spoil_some(random: &mut Random, table: &mut [Bytes]) {
     }
 }
 
-/// One to three findings' patterns, more records grown around them, all shuffled.
-fn grown_on_findings(random: &mut Random) -> Vec<Bytes> {
+/// One to three findings' patterns, more records grown around them up to so many, all shuffled.
+pub fn grown_on_findings(random: &mut Random, most: usize) -> Vec<Bytes> {
     let mut b = Builder::default();
     for _ in 0..1 + random.below(3) {
         add_finding(&mut b, random.below(FINDINGS.len()));
     }
-    let size = (b.table.len() + random.below(20)).min(LEAST_LARGE - 1);
+    let size = (b.table.len() + random.below(20)).min(most);
     let profile = random.pick(&PROFILES);
     let table = grow(random, &profile, b.table, size);
     shuffle(random, &table)

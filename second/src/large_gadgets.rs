@@ -21,7 +21,7 @@ pub const SIZES: [usize; 6] = [LEAST_LARGE, 127, 128, 129, 199, 200];
 
 /// A table made for what it shows.
 pub struct Pattern {
-    pub name: &'static str,
+    pub name: String,
     pub table: Vec<Bytes>,
     /// The findings that hold, in the report's order.
     pub findings: &'static [&'static str],
@@ -43,20 +43,27 @@ impl Pattern {
     }
 }
 
+/// A pattern without a long cycle, whose records stand in one order only.
+pub fn fixed(name: &str, findings: &'static [&'static str], table: Vec<Bytes>) -> Pattern {
+    Pattern { name: name.to_string(), table, findings, cycle: None, can_be_relisted: false }
+}
+
+/// A pattern without a long cycle, whose records can be listed otherwise.
+pub fn free(name: &str, findings: &'static [&'static str], table: Vec<Bytes>) -> Pattern {
+    Pattern { can_be_relisted: true, ..fixed(name, findings, table) }
+}
+
 /// Every pattern with so many records, 65 or more.
 pub fn patterns(size: usize) -> Vec<Pattern> {
-    let fixed =
-        |name, findings, table| Pattern { name, table, findings, cycle: None, can_be_relisted: false };
-    let free = |name, findings, table| Pattern { can_be_relisted: true, ..fixed(name, findings, table) };
     let (arm_ring, sc_arm_ring) = (long_arm_ring(size), sc_arm_ring(size));
     vec![
         fixed("chain", &["R"], far_read(size)),
-        free("relay", &["R"], long_relay(size)),
+        free("relay", &["R"], long_relay(size, THREADS as usize - 1)),
         Pattern { cycle: Some(("A1", arm_ring.1)), ..fixed("ring of arms", &["R", "A1", "A3"], arm_ring.0) },
         Pattern { cycle: Some(("A4", sc_arm_ring.1)), ..free("ring of SC arms", &["A4"], sc_arm_ring.0) },
-        free("wide branch", &["W"], wide(size)),
-        free("tree of threads", &["W"], thread_tree(size)),
-        free("threads below each other", &["W"], nested_threads(size)),
+        free("wide branch", &["W"], wide(size, 14)),
+        free("tree of threads", &["W"], thread_tree(size, THREADS as usize)),
+        free("threads below each other", &["W"], nested_threads(size, THREADS as usize - 1)),
         free("updates far apart", &["A5"], far_apart(size)),
         free("updates far apart in conflict", &[], far_conflict(size)),
         fixed("read that stands on a race", &[], far_standing(size - 6)),
@@ -75,7 +82,7 @@ fn fill(b: &mut Builder, from: u8, location: u8, records: usize) -> u8 {
 }
 
 /// So many releasing stores of one location in a row, each of another value.
-fn stores_in_a_row(b: &mut Builder, from: u8, location: u8, count: usize) -> Vec<u8> {
+pub fn stores_in_a_row(b: &mut Builder, from: u8, location: u8, count: usize) -> Vec<u8> {
     let mut last = from;
     let mut add = |value| {
         last = b.store(REL, last, location, value as u16);
@@ -84,14 +91,14 @@ fn stores_in_a_row(b: &mut Builder, from: u8, location: u8, count: usize) -> Vec
     (0..count).map(&mut add).collect()
 }
 
-/// R at the last record: the write of its location is before it by flags only, which threads hand on in turn.
-fn long_relay(size: usize) -> Vec<Bytes> {
+/// R at the last record: the write of its location is before it by flags only, which so many threads hand on in turn.
+pub fn long_relay(size: usize, threads: usize) -> Vec<Bytes> {
     let mut b = Builder::default();
     let (x, filler) = (b.location(), b.location());
     let flags: Vec<u8> = (0..16).map(|_| b.location()).collect();
     let write = b.store(NA, 0, x, 1);
     let mut told = b.store(REL, write, flags[0], 0);
-    let mut ends: Vec<u8> = (1..THREADS).map(|_| b.thread(0)).collect();
+    let mut ends: Vec<u8> = (0..threads).map(|_| b.thread(0)).collect();
     // A load and a store in each turn, and the last read.
     for turn in 0..(size - b.table.len() - 1) / 2 {
         let end = turn % ends.len();
@@ -106,7 +113,7 @@ fn long_relay(size: usize) -> Vec<Bytes> {
 
 /// A1 (with R and A3), the longest cycle that the patterns reach with so many records, and its length: the arms of one
 /// branch, each reading the write of the arm before; the last one reads the last write, then the first.
-fn long_arm_ring(size: usize) -> (Vec<Bytes>, usize) {
+pub fn long_arm_ring(size: usize) -> (Vec<Bytes>, usize) {
     let length = (size - 2) / 2;
     let mut b = Builder::default();
     let (x, filler) = (b.location(), b.location());
@@ -124,7 +131,7 @@ fn long_arm_ring(size: usize) -> (Vec<Bytes>, usize) {
 }
 
 /// A4 alone, and the length of its cycle, two records for each arm: E3 with the arms of one branch as its threads.
-fn sc_arm_ring(size: usize) -> (Vec<Bytes>, usize) {
+pub fn sc_arm_ring(size: usize) -> (Vec<Bytes>, usize) {
     let arms = ((size - 2) / 5).min(30);
     let mut b = Builder::default();
     let (filler, flag) = (b.location(), b.location());
@@ -147,10 +154,9 @@ fn sc_arm_ring(size: usize) -> (Vec<Bytes>, usize) {
     (b.table, 2 * arms)
 }
 
-/// W alone, at the last two of fourteen NA stores: each is in a thread started on an arm of one wide branch, and
+/// W alone, at the last two of so many NA stores: each is in a thread started on an arm of one wide branch, and
 /// only these two on the same arm.
-fn wide(size: usize) -> Vec<Bytes> {
-    let starters = 14;
+pub fn wide(size: usize, starters: usize) -> Vec<Bytes> {
     let arms = (size - 2 - 2 * starters) / 2;
     let mut b = Builder::default();
     let (x, filler, flag) = (b.location(), b.location(), b.location());
@@ -173,38 +179,37 @@ fn two_arms(b: &mut Builder, above: u8, token: u8) -> [u8; 2] {
     [known, b.push(load_u(ACQ, b.thread_of(above), above, token, location))]
 }
 
-/// W alone. Each thread has a branch of two, and starts a thread on each arm until there are sixteen; the eight that
-/// start none store at one location, far below a branch of their own, and so does the thread that started but one,
-/// on the arm where it did: only these two are not in conflict.
-fn thread_tree(size: usize) -> Vec<Bytes> {
+/// W alone. Each thread has a branch of two, and starts a thread on each arm until there are so many, an even number; the
+/// half that start none store at one location, far below a branch of their own, and so does the thread that started but
+/// one, on the arm where it did: only these two are not in conflict.
+pub fn thread_tree(size: usize, threads: usize) -> Vec<Bytes> {
     let mut b = Builder::default();
     let (x, filler, t) = (b.location(), b.location(), b.location());
     let token = b.store(REL, 0, t, 0);
     let mut arms = vec![two_arms(&mut b, token, token)];
-    for thread in 1..THREADS as usize {
+    for thread in 1..threads {
         let started = b.thread(arms[(thread - 1) / 2][(thread - 1) % 2]);
         arms.push(two_arms(&mut b, started, token));
     }
-    let (leaves, only_one) = (8, 7);
+    let (leaves, only_one) = (threads / 2, threads / 2 - 1);
     b.store(NA, arms[only_one][0], x, 0);
     let fillers = size - b.table.len() - leaves;
     for leaf in 0..leaves {
         let share = fillers / leaves + usize::from(leaf < fillers % leaves);
-        let last = fill(&mut b, arms[THREADS as usize - leaves + leaf][1], filler, share);
+        let last = fill(&mut b, arms[threads - leaves + leaf][1], filler, share);
         b.store(NA, last, x, 1 + leaf as u16);
     }
     b.table
 }
 
 /// W alone, at the last two of three NA stores. The first is on one arm of thread 0, and the others are below the other,
-/// in the last two of fifteen threads, each started far below the start of the one before.
-fn nested_threads(size: usize) -> Vec<Bytes> {
+/// in the last two of so many threads, each started far below the start of the one before.
+pub fn nested_threads(size: usize, started: usize) -> Vec<Bytes> {
     let mut b = Builder::default();
     let (x, filler, t) = (b.location(), b.location(), b.location());
     let token = b.store(REL, 0, t, 0);
     let arms = two_arms(&mut b, token, token);
     b.store(NA, arms[0], x, 0);
-    let started = THREADS as usize - 1;
     // Their Inits and two stores are not fillers.
     let fillers = size - b.table.len() - started - 2;
     let (mut last, mut before) = (arms[1], arms[1]);

@@ -32,9 +32,14 @@ impl Relations {
     /// All relations; `depth` is `usize::MAX` but for the judge that is wrong on purpose.
     pub fn of(records: &[Record], depth: usize) -> Relations {
         let po = program_order(records);
-        let cf = conflict(records, &po);
         let sw = synchronises(records);
         let hb = happens_before(records, &po, &sw, depth);
+        Relations::after(records, po, sw, hb)
+    }
+
+    /// All relations, where the first three are known.
+    pub fn after(records: &[Record], po: Matrix, sw: Matrix, hb: Matrix) -> Relations {
+        let cf = conflict(records, &po);
         let race = race(records, &hb, &cf);
         let wb0 = write_before_step(records, &hb);
         let wb = closure(&wb0);

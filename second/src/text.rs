@@ -6,7 +6,12 @@ use crate::table::Refusal;
 
 /// What the program writes for a table; `depth` is that of `Relations::of`.
 pub fn judge(bytes: &[u8], depth: usize) -> String {
-    report_on(bytes, depth).map_or_else(refusal_line, report_lines)
+    answer_lines(report_on(bytes, depth))
+}
+
+/// The lines of an answer.
+pub fn answer_lines(answer: Result<Report, Refusal>) -> String {
+    answer.map_or_else(refusal_line, report_lines)
 }
 
 /// "A refused table gives one line"; a record's refusal names its byte too, as `refused 4 at 17 byte 9`, and

@@ -170,15 +170,21 @@ pub const LOCKS: [(usize, usize, u8); 8] =
 /// so many times. The numbers of the updates.
 pub fn lock(b: &mut Builder, base: u8, threads: usize, takes: usize, order: u8) -> Vec<u8> {
     let x = b.location();
-    let mut token = b.store(REL, base, x, 0);
-    let mut ends: Vec<u8> = (0..threads).map(|_| b.thread(token)).collect();
-    let mut updates = Vec::new();
+    let token = b.store(REL, base, x, 0);
+    let ends = (0..threads).map(|_| b.thread(token)).collect();
+    take_in_turn(b, &[token], ends, takes, order)
+}
+
+/// Updates below these records in turn, so many, each below the last one there. The first ones take the tokens, one
+/// each, and then each takes what was written as many takes before as there are tokens. The numbers of the updates.
+pub fn take_in_turn(b: &mut Builder, tokens: &[u8], mut ends: Vec<u8>, takes: usize, order: u8) -> Vec<u8> {
+    let mut written = tokens.to_vec();
     for take in 0..takes {
-        token = b.update(order, ends[take % threads], token, take as u16 + 1);
-        ends[take % threads] = token;
-        updates.push(token);
+        let end = take % ends.len();
+        ends[end] = b.update(order, ends[end], written[take], written.len() as u16);
+        written.push(ends[end]);
     }
-    updates
+    written.split_off(tokens.len())
 }
 
 /// Locks that hold by releases: threads and takes.

@@ -44,10 +44,20 @@ pub enum Way {
     LengthBeforeTable,
     /// Selections: bits at or past the count are not looked at.
     PastTheCount,
+    /// The twin: sw from any source, releasing or not.
+    SwAnySource,
+    /// The twin: a last step of po stops at a thread's start, for happens-before only.
+    StopsAtThreadStart,
+    /// The twin: of several cycles of the fewest records, another than the least.
+    AnyCycle,
+    /// The twin: 384 bytes are already too large.
+    TooLargeAt384,
+    /// The twin: above 384 bytes the tests come first.
+    TestsFirst,
 }
 
 /// Each way and its name.
-pub const WAYS: [(&str, Way); 17] = [
+pub const WAYS: [(&str, Way); 22] = [
     ("ten-steps", Way::TenSteps),
     ("updates-in-conflict", Way::UpdatesInConflict),
     ("mark-of-short-header", Way::MarkOfShortHeader),
@@ -65,6 +75,11 @@ pub const WAYS: [(&str, Way); 17] = [
     ("any-length", Way::AnyLength),
     ("length-before-table", Way::LengthBeforeTable),
     ("past-the-count", Way::PastTheCount),
+    ("sw-any-source", Way::SwAnySource),
+    ("stops-at-thread-start", Way::StopsAtThreadStart),
+    ("any-cycle", Way::AnyCycle),
+    ("too-large-at-384", Way::TooLargeAt384),
+    ("tests-first", Way::TestsFirst),
 ];
 
 /// The way that was asked for; never one in a build without the feature.

@@ -3,12 +3,13 @@
 use second::wrong::{asked, way_named, WAYS};
 use std::ffi::OsStr;
 
-const SCRIPTS: [&str; 5] = [
+const SCRIPTS: [&str; 6] = [
     include_str!("../compare-wrong.sh"),
     include_str!("../compare-wrong-batches.sh"),
     include_str!("../compare-wrong-figures.sh"),
     include_str!("../compare-wrong-bytes.sh"),
     include_str!("../compare-wrong-selections.sh"),
+    include_str!("../compare-wrong-twin.sh"),
 ];
 
 #[test]
@@ -30,7 +31,7 @@ fn nothing_is_asked_for_where_nothing_is_set() {
 #[test]
 fn each_way_is_asked_for_by_one_script() {
     for (name, _) in WAYS {
-        let parts_words = |sign: char| !sign.is_ascii_lowercase() && sign != '-';
+        let parts_words = |sign: char| !sign.is_ascii_lowercase() && !sign.is_ascii_digit() && sign != '-';
         let asks = |script: &str| script.split(parts_words).any(|word| word == name);
         assert_eq!(SCRIPTS.iter().filter(|script| asks(script)).count(), 1, "{name}");
     }
