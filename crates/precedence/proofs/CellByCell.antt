@@ -1,68 +1,58 @@
 -- Conflict of a and b from the cells made before theirs.
 use mathlib.Core.Path.{_≡_, sym, _∙_}
+use mathlib.Core.Bool.{Bool, _||_}
 use mathlib.Core.List.{List}
 use mathlib.Core.Logic.{_↔_}
 use Prim.Native.Nat.{ℕ, _<_}
 use native.Mathlib.Omega.{arith}
 use Rattle.events.specs.declared.Link.{Link}
+use Rattle.laws.specs.Says.{Says}
+use Rattle.laws.proofs.Says.{says-iff, says-or}
 use Rattle.matrix.specs.Matrix.{Cell}
 use Rattle.matrix.proofs.Bytes.{bit-yes, bit-is}
 use Rattle.matrix.proofs.Cells.{of-row, row-of}
 use Rattle.model.specs.Table.{Table, Inside, Parent}
-use Rattle.model.specs.Relations.{Apart, Conflict}
+use Rattle.model.specs.Relations.{Conflict}
 use Rattle.model.proofs.Facts.{parent-earlier}
-use Rattle.model.proofs.Laws.{ConflictBy, themselves, first-parent, second-parent, conflict-iff-cases}
 use Rattle.table.specs.Events.{eventsOf}
 use Rattle.facts.proofs.Records.{formed}
+use Rattle.precedence.specs.Arms.{Arms}
 use Rattle.precedence.specs.Upward.{CellsBefore}
 use Rattle.precedence.specs.Links.{Linked}
 use Rattle.precedence.proofs.Linking.{to-linked}
+use Rattle.precedence.proofs.Branches.{conflict-iff-branch}
 
 module _ {bytes m : List ℕ} {n a b : ℕ} (q : CellsBefore Conflict bytes n m a b) where
   abbrev t : Table
   t = eventsOf bytes
 
-  cases : Conflict t a b ↔ ConflictBy t a b
-  cases =
-      let h : Inside t a = omega (arith, q .col, q .before .table .all) in
-      let k : Inside t b = omega (arith, q .before .row, q .before .table .all) in
-      conflict-iff-cases (formed (q .before .table)) h k
-
-  pub apart-conflict : Apart t a b → Conflict t a b
-  apart-conflict x = cases .1 (themselves x)
-
   earlier : (p k : ℕ) → Parent t p k → p < k
   earlier = parent-earlier (formed (q .before .table))
 
-  module _ {link : Link} (e : link ≡ t .at a .parent) where
-    pub first-conflict : Linked link (λ p. Cell n m p b) → Conflict t a b
-    first-conflict l =
-        let f = sym e ∙ l .is in
-        cases .1 (first-parent f (bit-yes (q .cells .cell (l .to) (earlier (l .to) a f)) (l .has .is1)))
+  -- what the cells of a parent's number say is what is so of the parent, where these cells are made
+  parent-told :
+      {link : Link} {r : Bool} (k : ℕ) (C R : ℕ → Type 0) → link ≡ t .at k .parent → ((p : ℕ) → p < k → C p ↔ R p) → Says r (Linked link C)
+      → Says r (Linked (t .at k .parent) R)
+  parent-told k C R e same =
+      says-iff (λ l. let f = sym e ∙ l .is in to-linked f (same (l .to) (earlier (l .to) k f) .0 (l .has)))
+      (λ l. to-linked (e ∙ l .is) (same (l .to) (earlier (l .to) k (l .is)) .1 (l .has)))
 
-    conflict-first : {p : ℕ} → Parent t p a → Conflict t p b → Linked link (λ p. Cell n m p b)
-    conflict-first {p} f c =
-        let h = earlier p a f in
-        to-linked (e ∙ f) (record { col = omega (arith, q .col); row = q .before .row; is1 = bit-is (q .cells .cell p h) c })
+  -- before column a in this row
+  in-this-row : (p : ℕ) → p < a → Cell n m p b ↔ Conflict t p b
+  in-this-row p l =
+      (λ c. bit-yes (q .cells .cell p l) (c .is1), λ c. record { col = omega (arith, q .col); row = q .before .row; is1 = bit-is (q .cells .cell p l) c })
 
-  module _ {link : Link} (e : link ≡ t .at b .parent) where
-    pub second-conflict : Linked link (λ p. Cell n m a p) → Conflict t a b
-    second-conflict l =
-        let f = sym e ∙ l .is in
-        cases .1 (second-parent f (of-row (q .before .rows .row (l .to) (earlier (l .to) b f)) (l .has)))
+  -- in the rows before this one
+  in-an-earlier-row : (p : ℕ) → p < b → Cell n m a p ↔ Conflict t a p
+  in-an-earlier-row p l =
+      let row = q .before .rows .row p l in
+      (of-row row, row-of row (q .col) (omega (arith, q .before .row)))
 
-    conflict-second : {p : ℕ} → Parent t p b → Conflict t a p → Linked link (λ p. Cell n m a p)
-    conflict-second {p} f c =
-        let h = earlier p b f in
-        to-linked (e ∙ f) (row-of (q .before .rows .row p h) (q .col) (omega (arith, q .before .row)) c)
-
-  -- where neither parent is in conflict, the two themselves are or nothing is
-  pub only-apart :
-      {link link′ : Link} → link ≡ t .at a .parent → link′ ≡ t .at b .parent → ¬ Linked link (λ p. Cell n m p b) → ¬ Linked link′ (λ p. Cell n m a p)
-      → Conflict t a b → Apart t a b
-  only-apart e e′ x y c = by (cases .0 c)
-    where
-      by : ConflictBy t a b → Apart t a b
-      by (themselves z) = z
-      by (first-parent f d) = absurd (x (conflict-first e f d))
-      by (second-parent f d) = absurd (y (conflict-second e′ f d))
+  pub conflict-told :
+      {up-a up-b : Link} {x y z : Bool} → up-a ≡ t .at a .parent → up-b ≡ t .at b .parent → Says x (Linked up-a (λ p. Cell n m p b))
+      → Says y (Linked up-b (λ p. Cell n m a p)) → Says z (Arms t a b) → Says ((x || y) || z) (Conflict t a b)
+  conflict-told e f x y z =
+      let h : Inside t a = omega (arith, q .col, q .before .table .all) in
+      let k : Inside t b = omega (arith, q .before .row, q .before .table .all) in
+      let told = conflict-iff-branch (formed (q .before .table)) h k in
+      says-iff (told .1) (told .0) (says-or (says-or (parent-told a _ _ e in-this-row x) (parent-told b _ _ f in-an-earlier-row y)) z)

@@ -4,5 +4,6 @@ pub mod Climbs
 pub mod Sources
 pub mod Making
 pub mod LastSteps
+pub mod Branches
 pub mod CellByCell
 pub mod Unique

@@ -2,5 +2,4 @@
 mod before;
 mod conflict;
 mod links;
-mod tree;
 pub mod upward;
