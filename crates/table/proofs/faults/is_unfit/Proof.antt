@@ -7,7 +7,7 @@ use Rattle.table.proofs.faults.is_unfit.Tie as tie
 returns : tie.Need-returns
 returns c =
     let read = c .before .before in
-    simp (lt-ltb _ _ (read .before .if1 .taken), c .suits .ensures, c .before .written-by .ensures, read .record-at .ensures)
+    simp (lt-ltb _ _ (read .before .if1 .taken), c .suits .ensures, c .before .written-by .ensures, read .standing-at .ensures)
 
 pub is-unfit-spec : {M : Type 1} → statement M
 is-unfit-spec = tie.close (tie.spec (search needs) (search needs) (search needs) returns (λ c. rw (le-ltb _ _ (c .if1 .left))))

@@ -1,0 +1,89 @@
+-- How the columns go on to be kept when a record more stands.
+use mathlib.Core.Path.{_≡_, refl, sym, subst, ap, _∙_}
+use mathlib.Core.Bool.{Bool, true, false}
+use mathlib.Core.List.{List, []}
+use Prim.Native.Nat.{ℕ, zero, suc, _+_, _<_, _≤_}
+use native.Mathlib.Omega.{arith}
+use native.Mathlib.Numerals.{add-one}
+use native.Mathlib.Decide.{ℕ-discrete}
+use lib.ListN.{length, getD, set, length-set}
+use lib.Seq.{getD-set-same, getD-set-other}
+use borrow.Author.Count.{below-more}
+use Rattle.laws.proofs.Says.{says-yes, says-no, says-one}
+use Rattle.events.specs.declared.Link.the-variants.{To}
+use Rattle.events.specs.declared.Record.{Record}
+use Rattle.model.proofs.Fields.{one-end}
+use Rattle.table.specs.Events.{eventsOf}
+use Rattle.table.specs.Siblings.{lastChild, Chain, Kept}
+use Rattle.table.specs.Standing.{Stands, AllStand}
+use Rattle.table.specs.Test.{Decodes}
+use Rattle.table.proofs.Telling.{says-link}
+
+-- ---- the last child, one number on
+
+module _ (at : ℕ → Record) (p n : ℕ) where
+  last-this : at n .parent ≡ To p → lastChild at p (n + 1) ≡ n
+  unfolding lastChild
+  last-this e = rw (add-one n, says-one (says-link (at n .parent) (To p)) (says-yes e))
+
+  last-other : ¬ (at n .parent ≡ To p) → lastChild at p (n + 1) ≡ lastChild at p n
+  unfolding lastChild
+  last-other e = rw (add-one n, says-one (says-link (at n .parent) (To p)) (says-no e))
+
+-- ---- the columns of b, one record on
+
+module _ {b : List ℕ} {n : ℕ} {last older : List ℕ} (here : Stands b n) (kept : Kept b n last older) where
+  abbrev at : ℕ → Record
+  at = eventsOf b .at
+
+  stand-more : AllStand b (n + 1)
+  stand-more = record { held = omega (arith, here .held); decodes = below-more (Decodes b) n (kept .stand .decodes) (here .decodes) }
+
+  -- record n has no place in the columns, or they have none for it
+  pub kept-other : ((q : ℕ) → n < length older → q < length last → ¬ (at n .parent ≡ To q)) → Kept b (n + 1) last older
+  kept-other other = record {
+    stand = stand-more;
+    small = kept .small;
+    chains = λ r q h.
+        let room : n < length older = omega arith in
+        let before = kept .chains (omega arith) q h in
+        record {
+          last = before .last ∙ sym (last-other at q n (other q room h));
+          before = below-more (λ m. at m .parent ≡ To q → getD older m 0 ≡ lastChild at q m) n (before .before) (λ e. absurd (other q room h e));
+        };
+  }
+
+  -- it is the last child of p
+  module _ (p : ℕ) (is : at n .parent ≡ To p) (place : p < length last) (room : n < length older) where
+    abbrev newer : List ℕ
+    newer = set older n (getD last p 0)
+
+    last-now : (q : ℕ) → q < length last → Dec (q ≡ p) → getD (set last p n) q 0 ≡ lastChild at q (n + 1)
+    last-now q h (yes e) = subst (λ (k : ℕ). getD (set last p n) k 0 ≡ lastChild at k (n + 1)) (sym e) (getD-set-same last p n 0 place ∙ sym (last-this at p n is))
+    last-now q h (no e) =
+        getD-set-other last p q n 0 e
+        ∙ (kept .chains (omega arith) q h .last ∙ sym (last-other at q n (λ f. e (one-end is f))))
+
+    before-now : (q : ℕ) → q < length last → (m : ℕ) → m < n → at m .parent ≡ To q → getD newer m 0 ≡ lastChild at q m
+    before-now q h m l e = getD-set-other older n m (getD last p 0) 0 (λ s. absurd (omega arith)) ∙ kept .chains (omega arith) q h .before m l e
+
+    before-this : (q : ℕ) → at n .parent ≡ To q → getD newer n 0 ≡ lastChild at q n
+    before-this q e =
+        getD-set-same older n (getD last p 0) 0 room
+        ∙ (kept .chains (omega arith) p place .last ∙ ap (λ (k : ℕ). lastChild at k n) (one-end e is))
+
+    pub kept-child : Kept b (n + 1) (set last p n) newer
+    kept-child = record {
+      stand = stand-more;
+      small = rw (length-set older n (getD last p 0)) (kept .small);
+      chains = λ r q h.
+          let inside : q < length last = omega (arith, length-set last p n) in
+          record {
+            last = last-now q inside (ℕ-discrete q p);
+            before = below-more (λ m. at m .parent ≡ To q → getD newer m 0 ≡ lastChild at q m) n (before-now q inside) (before-this q);
+          };
+    }
+
+-- no columns are kept of any table
+pub kept-none : {b : List ℕ} {n : ℕ} → AllStand b n → Kept b n [] []
+kept-none all = record { stand = all; small = omega arith; chains = λ r p h. absurd (omega arith) }
