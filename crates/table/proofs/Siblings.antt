@@ -109,18 +109,18 @@ module _ (b : List ℕ) (older : List ℕ) (new : Record) where
   left-none l e = sym (or-no refl (family-done (l .family) e)) ∙ l .whole
 
   pub left-next : {n s : ℕ} {found hit : Bool} → Left n found s → ¬ (s ≡ 255) → hit ≡ twinnedSibling (eventsOf b .at s) new → Left n (found || hit) (getD older s 0)
-  left-next {n} {s} {found} l some is =
+  left-next {n} {s} {found} {hit} l some is =
       let next = family-next (l .family) some in
       record {
         bound = s;
         within = omega (arith, l .within, next .earlier);
         family = next .rest;
-        whole = turned found (next .same) is ∙ l .whole;
+        whole = turned found hit (found-below s) (next .same) is ∙ l .whole;
       }
     where
-      turned : (a : Bool) {h t u v : Bool} → u ≡ (t || v) → h ≡ v → ((a || h) || t) ≡ (a || u)
-      turned true e is = refl
-      turned false {h = true} {t = true} e is = cc
-      turned false {h = true} {t = false} e is = cc
-      turned false {h = false} {t = true} e is = cc
-      turned false {h = false} {t = false} e is = cc
+      turned : (a h t : Bool) {u v : Bool} → u ≡ (t || v) → h ≡ v → ((a || h) || t) ≡ (a || u)
+      turned true h t e is = refl
+      turned false true true e is = sym e
+      turned false true false e is = is ∙ sym e
+      turned false false true e is = sym e
+      turned false false false e is = is ∙ sym e

@@ -8,7 +8,7 @@ use Rattle.table.proofs.twins.is_sibling_twin.Tie as tie
 returns : tie.Need-returns
 returns c =
     let read = c .before .before .before in
-    let asked = read .before .before in
+    let asked = read .before .before .before in
     simp (
       eq-eqb _ _ (sym (asked .thread-at .ensures) ∙ read .before .if1 .taken),
       c .branches .ensures,
