@@ -1,15 +1,16 @@
 -- How the columns go on to be kept when a record more stands.
 use mathlib.Core.Path.{_≡_, refl, sym, subst, ap, _∙_}
-use mathlib.Core.Bool.{Bool, true, false}
-use mathlib.Core.List.{List, []}
+use mathlib.Core.Bool.{Bool, true, _&&_}
+use mathlib.Core.List.{List, [], _∷_}
 use Prim.Native.Nat.{ℕ, zero, suc, _+_, _<_, _≤_}
 use native.Mathlib.Omega.{arith}
 use native.Mathlib.Numerals.{add-one}
 use native.Mathlib.Decide.{ℕ-discrete}
+use lib.Dec.{T, eqb}
 use lib.ListN.{length, getD, set, length-set}
 use lib.Seq.{getD-set-same, getD-set-other}
 use borrow.Author.Count.{below-more}
-use Rattle.laws.proofs.Says.{says-yes, says-no, says-one}
+use Rattle.laws.proofs.Says.{says-yes, says-no, says-one, says-T, says-eq, says-and}
 use Rattle.events.specs.declared.Link.the-variants.{To}
 use Rattle.events.specs.declared.Record.{Record}
 use Rattle.model.proofs.Fields.{one-end}
@@ -87,3 +88,22 @@ module _ {b : List ℕ} {n : ℕ} {last older : List ℕ} (here : Stands b n) (k
 -- no columns are kept of any table
 pub kept-none : {b : List ℕ} {n : ℕ} → AllStand b n → Kept b n [] []
 kept-none all = record { stand = all; small = omega arith; chains = λ r p h. absurd (omega arith) }
+
+-- ---- the columns of no record
+
+abbrev pub allNone : List ℕ → Bool
+allNone [] = true
+allNone (x ∷ l) = eqb x 255 && allNone l
+
+none-there : (l : List ℕ) → T (allNone l) → (p : ℕ) → p < length l → getD l p 0 ≡ 255
+none-there [] all p h = absurd (omega arith)
+none-there (x ∷ l) all zero h = says-and (says-eq x 255) (says-T (allNone l)) .to all .0
+none-there (x ∷ l) all (suc p) h = none-there l (says-and (says-eq x 255) (says-T (allNone l)) .to all .1) p (omega arith)
+
+pub kept-first : (b last older : List ℕ) → length older ≤ 255 → T (allNone last) → Kept b 0 last older
+unfolding lastChild
+kept-first b last older small none = record {
+  stand = record { held = omega arith; decodes = λ m h. absurd (omega arith) };
+  small = small;
+  chains = λ r p h. record { last = none-there last none p h; before = λ m l. absurd (omega arith) };
+}
