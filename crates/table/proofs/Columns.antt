@@ -6,19 +6,30 @@ use Prim.Native.Nat.{ℕ, zero, suc, _+_, _<_, _≤_}
 use native.Mathlib.Omega.{arith}
 use native.Mathlib.Numerals.{add-one}
 use native.Mathlib.Decide.{ℕ-discrete}
-use lib.Dec.{T, eqb}
+use lib.Dec.{T, eqb, ltb}
 use lib.ListN.{length, getD, set, length-set}
 use lib.Seq.{getD-set-same, getD-set-other}
 use borrow.Author.Count.{below-more}
-use Rattle.laws.proofs.Says.{says-yes, says-no, says-one, says-T, says-eq, says-and}
-use Rattle.events.specs.declared.Link.the-variants.{To}
+use Rattle.laws.specs.Says.{Says}
+use Rattle.laws.proofs.Says.{says-yes, says-no, says-one, says-T, says-eq, says-lt, says-and, says-iff}
+use Rattle.events.specs.declared.Link.the-variants.{Absent, To}
 use Rattle.events.specs.declared.Record.{Record}
-use Rattle.model.proofs.Fields.{one-end}
+use Rattle.model.proofs.Fields.{absent-to, one-end}
 use Rattle.table.specs.Events.{eventsOf}
 use Rattle.table.specs.Siblings.{lastChild, Chain, Kept}
 use Rattle.table.specs.Standing.{Stands, AllStand}
 use Rattle.table.specs.Test.{Decodes}
 use Rattle.table.proofs.Telling.{says-link}
+
+-- what the code asks of the columns before it uses them
+pub record Placed (last older : List ℕ) (p n : ℕ) : Type 0 where
+  pub place : p < length last
+  pub room : n < length older
+
+pub says-placed :
+    (last older : List ℕ) (p n : ℕ) → Says (ltb p (length last) && ltb n (length older)) (Placed last older p n)
+says-placed last older p n =
+    says-iff (λ (h, l). record { place = h; room = l }) (λ x. (x .place, x .room)) (says-and (says-lt p (length last)) (says-lt n (length older)))
 
 -- ---- the last child, one number on
 
@@ -40,38 +51,44 @@ module _ {b : List ℕ} {n : ℕ} {last older : List ℕ} (here : Stands b n) (k
   stand-more : AllStand b (n + 1)
   stand-more = record { held = omega (arith, here .held); decodes = below-more (Decodes b) n (kept .stand .decodes) (here .decodes) }
 
-  -- record n has no place in the columns, or they have none for it
-  pub kept-other : ((q : ℕ) → n < length older → q < length last → ¬ (at n .parent ≡ To q)) → Kept b (n + 1) last older
+  -- record n is a child of no record that the columns are used for
+  kept-other : ((q : ℕ) → Placed last older q n → ¬ (at n .parent ≡ To q)) → Kept b (n + 1) last older
   kept-other other = record {
     stand = stand-more;
     small = kept .small;
     chains = λ r q h.
-        let room : n < length older = omega arith in
+        let placed : Placed last older q n = record { place = h; room = omega arith } in
         let before = kept .chains (omega arith) q h in
         record {
-          last = before .last ∙ sym (last-other at q n (other q room h));
-          before = below-more (λ m. at m .parent ≡ To q → getD older m 0 ≡ lastChild at q m) n (before .before) (λ e. absurd (other q room h e));
+          last = before .last ∙ sym (last-other at q n (other q placed));
+          before = below-more (λ m. at m .parent ≡ To q → getD older m 0 ≡ lastChild at q m) n (before .before) (λ e. absurd (other q placed e));
         };
   }
 
-  -- it is the last child of p
-  module _ (p : ℕ) (is : at n .parent ≡ To p) (place : p < length last) (room : n < length older) where
+  pub kept-root : at n .parent ≡ Absent → Kept b (n + 1) last older
+  kept-root none = kept-other (λ q placed e. absent-to none e)
+
+  pub kept-unplaced : (p : ℕ) → at n .parent ≡ To p → ¬ Placed last older p n → Kept b (n + 1) last older
+  kept-unplaced p is not-placed = kept-other (λ q placed e. not-placed (subst (λ (k : ℕ). Placed last older k n) (one-end is e) placed))
+
+  -- or it is the last child of p
+  module _ (p : ℕ) (is : at n .parent ≡ To p) (placed : Placed last older p n) where
     abbrev newer : List ℕ
     newer = set older n (getD last p 0)
 
     last-now : (q : ℕ) → q < length last → Dec (q ≡ p) → getD (set last p n) q 0 ≡ lastChild at q (n + 1)
-    last-now q h (yes e) = subst (λ (k : ℕ). getD (set last p n) k 0 ≡ lastChild at k (n + 1)) (sym e) (getD-set-same last p n 0 place ∙ sym (last-this at p n is))
+    last-now q h (yes e) = subst (λ (k : ℕ). getD (set last p n) k 0 ≡ lastChild at k (n + 1)) (sym e) (getD-set-same last p n 0 (placed .place) ∙ sym (last-this at p n is))
     last-now q h (no e) =
         getD-set-other last p q n 0 e
-        ∙ (kept .chains (omega arith) q h .last ∙ sym (last-other at q n (λ f. e (one-end is f))))
+        ∙ (kept .chains (omega (arith, placed .room)) q h .last ∙ sym (last-other at q n (λ f. e (one-end is f))))
 
     before-now : (q : ℕ) → q < length last → (m : ℕ) → m < n → at m .parent ≡ To q → getD newer m 0 ≡ lastChild at q m
-    before-now q h m l e = getD-set-other older n m (getD last p 0) 0 (λ s. absurd (omega arith)) ∙ kept .chains (omega arith) q h .before m l e
+    before-now q h m l e = getD-set-other older n m (getD last p 0) 0 (λ s. absurd (omega arith)) ∙ kept .chains (omega (arith, placed .room)) q h .before m l e
 
     before-this : (q : ℕ) → at n .parent ≡ To q → getD newer n 0 ≡ lastChild at q n
     before-this q e =
-        getD-set-same older n (getD last p 0) 0 room
-        ∙ (kept .chains (omega arith) p place .last ∙ ap (λ (k : ℕ). lastChild at k n) (one-end e is))
+        getD-set-same older n (getD last p 0) 0 (placed .room)
+        ∙ (kept .chains (omega (arith, placed .room)) p (placed .place) .last ∙ ap (λ (k : ℕ). lastChild at k n) (one-end e is))
 
     pub kept-child : Kept b (n + 1) (set last p n) newer
     kept-child = record {

@@ -35,7 +35,7 @@ pub record Family (b : List ℕ) (n : ℕ) (older : List ℕ) (youngest : ℕ) (
   pub child : new .parent ≡ To parent
   pub chain : Chain (eventsOf b .at) n older parent youngest
 
--- the columns of the first n records, unless these are more than the columns have room for
+-- the columns of the first n records, where they have room for so many
 pub record Kept (b : List ℕ) (n : ℕ) (last older : List ℕ) : Type 0 where
   pub stand : AllStand b n
   pub small : length older ≤ 255

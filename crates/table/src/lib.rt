@@ -24,7 +24,7 @@ use refusals::Fault;
 use refusals::Refusal;
 pub use stored::record_at;
 
-// How many records' columns are kept: as many as a byte can number, beside `NONE`.
+// How many records the columns have room for: as many as a byte can number beside `NONE`.
 const KEPT: usize = 255;
 
 // What the test of one record says.
@@ -73,6 +73,7 @@ pub fn check_new(table: &[u8], n: usize, r: Record) -> Checked
     ensures { λ c. ⌜ CheckAnswer (take (recordSize * n) (now (table .entry)) ++ encode r) n c ⌝ }
 {
     let new = record::bytes_of(r);
+    // To make columns for one record would cost more than asking every earlier one.
     let none: [u8; 0] = [];
     check_decoded(table, n, &none, &none, record::read_part(&new))
 }

@@ -78,7 +78,7 @@ pub fn twin_fault(table: &[u8], n: usize, last: &[u8], older: &[u8], new: Record
         Link::Absent => twin_below(table, n, new),
         Link::To(byte) => {
             let p = wide(byte);
-            if (p < last.len()) & (n <= older.len()) {
+            if (p < last.len()) & (n < older.len()) {
                 return twin_among(table, n, older, last[p], new);
             }
             twin_below(table, n, new)
