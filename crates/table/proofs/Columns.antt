@@ -1,5 +1,5 @@
 -- How the columns go on to be kept when a record more stands.
-use mathlib.Core.Path.{_≡_, refl, sym, subst, ap, _∙_}
+use mathlib.Core.Path.{_≡_, sym, subst, ap, _∙_}
 use mathlib.Core.Bool.{Bool, true, _&&_}
 use mathlib.Core.List.{List, [], _∷_}
 use Prim.Native.Nat.{ℕ, zero, suc, _+_, _<_, _≤_}
@@ -16,7 +16,7 @@ use Rattle.events.specs.declared.Link.the-variants.{Absent, To}
 use Rattle.events.specs.declared.Record.{Record}
 use Rattle.model.proofs.Fields.{absent-to, one-end}
 use Rattle.table.specs.Events.{eventsOf}
-use Rattle.table.specs.Siblings.{lastChild, Chain, Kept}
+use Rattle.table.specs.Siblings.{lastChild, Kept}
 use Rattle.table.specs.Standing.{Stands, AllStand}
 use Rattle.table.specs.Test.{Decodes}
 use Rattle.table.proofs.Telling.{says-link}
