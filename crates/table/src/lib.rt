@@ -73,7 +73,7 @@ pub fn check_new(table: &[u8], n: usize, r: Record) -> Checked
     ensures { λ c. ⌜ CheckAnswer (take (recordSize * n) (now (table .entry)) ++ encode r) n c ⌝ }
 {
     let new = record::bytes_of(r);
-    // To make columns for one record would cost more than asking every earlier one.
+    // For one record no columns are made: it is held against every earlier one.
     let none: [u8; 0] = [];
     check_decoded(table, n, &none, &none, record::read_part(&new))
 }
