@@ -1,0 +1,8 @@
+-- Laws of sets and rows of words.
+pub mod Digits
+pub mod Sets
+pub mod Parts
+pub mod Rows
+pub mod Trailing
+pub mod Leading
+pub mod Along
