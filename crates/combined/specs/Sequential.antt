@@ -5,7 +5,7 @@ use Prim.Native.Nat.{ℕ, _<_, _≤_}
 use lib.ListN.{length, getD}
 use Rattle.laws.specs.Steps.{Rel}
 use Rattle.rows.specs.Rows.{Room}
-use Rattle.spread.specs.Steps.{Leads}
+use Rattle.rows.specs.Steps.{Leads}
 use Rattle.combined.specs.Columns.{Placed}
 
 -- before b by P, and not At b's place

@@ -5,7 +5,7 @@ use Prim.Native.Nat.{ℕ, _<_, _≤_}
 use lib.ListN.{length, getD}
 use Rattle.laws.specs.Steps.{Rel, Plus}
 use Rattle.rows.specs.Rows.{Room}
-use Rattle.spread.specs.Steps.{Leads, ByEither, Then}
+use Rattle.rows.specs.Steps.{Leads, ByEither, Then}
 use Rattle.combined.specs.Columns.{Placed}
 
 -- "w or a reader of w": o owns itself if it writes, and what it is the source of

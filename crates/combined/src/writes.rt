@@ -1,4 +1,5 @@
 // Steps from write to write: what owns something before a record is handed on to the record's own owners.
+use rows::led::from_either;
 use rows::row::add;
 use rows::row::drop;
 use rows::row::put;
@@ -7,13 +8,12 @@ use rows::set::Set;
 use rows::set::both;
 use rows::set::either;
 use rows::whole::clear;
-use spread::onward::from_either;
 ghost use Prim.Native.Nat.{_<_, _≤_};
 ghost use lib.ListN.{length, getD};
 ghost use Rattle.laws.specs.Steps.{Plus};
 ghost use Rattle.rows.specs.Sets.{In, Is};
 ghost use Rattle.rows.specs.Rows.{On, Room, MadeRow, Made};
-ghost use Rattle.spread.specs.Steps.{ByEither, Star, Then};
+ghost use Rattle.rows.specs.Steps.{ByEither, Star, Then};
 ghost use Rattle.combined.specs.Writes.{Owning, HandedOn, HandingRoom};
 
 // Row `to` takes in the set, but for `to` itself.

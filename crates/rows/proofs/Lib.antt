@@ -6,3 +6,4 @@ pub mod Rows
 pub mod Trailing
 pub mod Leading
 pub mod Along
+pub mod Steps

@@ -207,8 +207,8 @@ holds-zeros w n k = record {
 pub room-row : {w n h : ℕ} {m : List ℕ} → Room w n h m → (b : ℕ) → b < h → HasRow w m b
 room-row {w} r b l = record { width = r .width; room = omega (arith, r .room, row-before w l) }
 
--- a matrix that was made has room as before, and holds what it was made to
-pub made-room : {w n h : ℕ} {R : ℕ → ℕ → Type 0} {m m′ : List ℕ} → Room w n h m → Made w h R m m′ → Room w n h m′
+-- a matrix of which rows were made has room as before, and holds what it was made to
+pub made-room : {w n h k : ℕ} {R : ℕ → ℕ → Type 0} {m m′ : List ℕ} → Room w n h m → Made w k R m m′ → Room w n h m′
 made-room r p = record { width = r .width; wide = r .wide; room = omega (arith, r .room, p .rest .size) }
 
 pub made-given : {w n : ℕ} {R : ℕ → ℕ → Type 0} {m m′ : List ℕ} → Room w n n m → Made w n R m m′ → Given w n R m′

@@ -2,3 +2,4 @@
 pub mod Sets
 pub mod Rows
 pub mod Found
+pub mod Steps

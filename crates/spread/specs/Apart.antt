@@ -2,7 +2,7 @@
 use mathlib.Core.List.{List}
 use Prim.Native.Nat.{ℕ, _<_}
 use Rattle.laws.specs.Steps.{Rel}
-use Rattle.spread.specs.Steps.{Leads, Star, Then}
+use Rattle.rows.specs.Steps.{Leads, Star, Then}
 
 module _ (n : ℕ) (parent : List ℕ) where
   -- X relates a to something at or below b, among the numbers below n

@@ -1,3 +1,2 @@
--- Steps that columns give, and relations that spread along them.
-pub mod Steps
+-- Relations that spread along steps that columns give.
 pub mod Apart

@@ -1,5 +1,5 @@
 // What stands under another arm of a branch: downward what stands under each number, then upward what stands beside it.
-use crate::onward::row_before;
+use rows::led::row_before;
 use rows::row::put;
 use rows::row::row;
 use rows::set::Set;
@@ -11,7 +11,7 @@ ghost use Prim.Native.Nat.{_<_, _≤_};
 ghost use lib.ListN.{length};
 ghost use Rattle.rows.specs.Sets.{In, Is};
 ghost use Rattle.rows.specs.Rows.{On, Room, MadeRow, Made};
-ghost use Rattle.spread.specs.Steps.{Leads, Star, Then};
+ghost use Rattle.rows.specs.Steps.{Leads, Star, Then};
 ghost use Rattle.spread.specs.Apart.{Under, UnderArms, Beside, Apart, DownTo};
 
 // The row that the column leads to b from, if it does, takes in the set.
