@@ -149,6 +149,12 @@ pub made-row-iff :
     {w b : ℕ} {P Q : ℕ → Type 0} {m m′ : List ℕ} → ((a : ℕ) → P a → Q a) → ((a : ℕ) → Q a → P a) → MadeRow w b P m m′ → MadeRow w b Q m m′
 made-row-iff f g r = record { rest = r .rest; all = λ a q. r .all a (g a q); only = λ a o. f a (r .only a o) }
 
+-- a row that was made to be a set whose numbers all have room
+pub made-row-is :
+    {w b : ℕ} {P : ℕ → Type 0} {s : Set} {m m′ : List ℕ} → Is s P → ((a : ℕ) → P a → a < 64 * w)
+    → MadeRow w b (λ a. In s a × (a < 64 * w)) m m′ → MadeRow w b P m m′
+made-row-is i low = made-row-iff (λ a z. i .only a (z .0)) (λ a p. (i .all a p, low a p))
+
 -- a row that is changed again
 pub made-row-trans : {w b : ℕ} {P Q : ℕ → Type 0} {m₀ m m′ : List ℕ} → MadeRow w b Q m₀ m → MadeRow w b P m m′ → MadeRow w b P m₀ m′
 made-row-trans p r = record { rest = outside-trans (p .rest) (r .rest); all = r .all; only = r .only }

@@ -1,3 +1,2 @@
 // Relations that spread along steps that columns give, row by row.
-pub mod apart;
 pub mod onward;
