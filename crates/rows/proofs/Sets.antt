@@ -1,14 +1,15 @@
 -- Sets that are put together, and what they have.
 use mathlib.Core.Path.{_≡_, refl, sym, ap, ap₂, subst, _∙_}
 use mathlib.Core.Logic.{_⊎_, inl, inr, ⊎-map}
-use Prim.Native.Nat.{ℕ, zero, suc, _+_, _*_, _/_, _%_, _^_, _<_}
+use Prim.Native.Nat.{ℕ, zero, suc, _+_, _*_, _/_, _%_, _^_, _≤_, _<_}
 use native.Mathlib.Nat.{eq-zero-or-pos}
 use native.Mathlib.Omega.{arith}
+use native.Mathlib.Decide.{decLt}
 use lib.Count.{trailingZeros}
 use lib.Dec.{eqb}
 use lib.Bits.{bitAnd, bitOr, bitXor}
 use Rattle.laws.specs.Says.{Says}
-use Rattle.laws.proofs.Says.{says-iff, says-eq}
+use Rattle.laws.proofs.Says.{says-iff, says-eq, says-dec, says-any, by-dec}
 use Rattle.rows.specs.declared.set.Set.{Set}
 use Rattle.rows.specs.Sets.{digit, wordOf, In, Is}
 use Rattle.rows.proofs.Digits.{Bit, bit-at, bit-is, bit-yes, digit-is, digit-dec, digit-or, digit-and, digit-less, never-in-zero}
@@ -132,3 +133,24 @@ module _ (s : Set) where
   says-empty a b c d =
       says-iff (λ e x i. never-in-zero (x % 64) (subst (λ (z : ℕ). digit z (x % 64) ≡ 1) e (in-joined (x / 64) (x % 64) (i .is1)))) (λ n. all-zero n a b c d)
       (says-eq joined 0)
+
+word-past : (s : Set) (k : ℕ) → 4 ≤ k → wordOf s k ≡ 0
+word-past s zero l = absurd (omega arith)
+word-past s (suc zero) l = absurd (omega arith)
+word-past s (suc (suc zero)) l = absurd (omega arith)
+word-past s (suc (suc (suc zero))) l = absurd (omega arith)
+word-past s (suc (suc (suc (suc k)))) l = refl
+
+pub in-low : (s : Set) (a : ℕ) → In s a → a < 256
+in-low s a i = by (decLt a 256)
+  where
+    by : Dec (a < 256) → a < 256
+    by (yes l) = l
+    by (no n) = absurd (never-in-zero (a % 64) (subst (λ (z : ℕ). digit z (a % 64) ≡ 1) (word-past s (a / 64) (omega arith)) (i .is1)))
+
+-- a set that is not empty has a number
+pub some-in : (s : Set) → ¬ ((a : ℕ) → ¬ In s a) → (a : ℕ) × In s a
+some-in s h = by-dec (says-dec (says-any (in-low s) each)) (λ n. h (λ a i. n (a, i)))
+  where
+    each : (a : ℕ) → a < 256 → Says (eqb (digit (wordOf s (a / 64)) (a % 64)) 1) (In s a)
+    each a l = says-iff (λ e. record { is1 = e }) (λ i. i .is1) (says-eq (digit (wordOf s (a / 64)) (a % 64)) 1)
