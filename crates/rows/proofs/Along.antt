@@ -106,7 +106,7 @@ module _ {w b : ℕ} {m : List ℕ} where
       by : (a : ℕ) → On w m a b → Dec (a / 64 ≡ k) → k ≤ a / 64 → ⊥
       by a o (yes e) h =
           let q : digit (getD m (b * w + a / 64) 0) (a % 64) ≡ 0 =
-              ap (λ (y : ℕ). digit (getD m (b * w + y) 0) (a % 64)) e ∙ ap (λ (y : ℕ). digit y (a % 64)) z ∙ digit-zero (a % 64) in
+          ap (λ (y : ℕ). digit (getD m (b * w + y) 0) (a % 64)) e ∙ ap (λ (y : ℕ). digit y (a % 64)) z ∙ digit-zero (a % 64) in
           omega (arith, q, o .is1)
       by a o (no n) h = c .from a (omega arith) o
 

@@ -212,6 +212,9 @@ made-again {w} {h} {R} {S} {m₀} {m} {m′} l low f g k r =
     only a b i (yes e) o = subst (S a) (sym e) (r .only a (subst (On w m′ a) e o))
     only a b i (no n) o = f a b n (k .holds .only a b i (on-was l (r .rest) n o))
 
+pub holds-itself : (w n : ℕ) (m : List ℕ) → Holds w n (On w m) m
+holds-itself w n m = record { all = λ a b l o. o; only = λ a b l o. o }
+
 -- rows that hold R already
 pub made-held : {w n : ℕ} {R : ℕ → ℕ → Type 0} {m : List ℕ} → Holds w n R m → Made w n R m m
 made-held h = record { rest = outside-none; holds = h }
@@ -240,9 +243,16 @@ holds-zeros w n k = record {
 pub room-row : {w n h : ℕ} {m : List ℕ} → Room w n h m → (b : ℕ) → b < h → HasRow w m b
 room-row {w} r b l = record { width = r .width; room = omega (arith, r .room, row-before w l) }
 
--- a matrix of which rows were made has room as before, and holds what it was made to
-pub made-room : {w n h k : ℕ} {R : ℕ → ℕ → Type 0} {m m′ : List ℕ} → Room w n h m → Made w k R m m′ → Room w n h m′
-made-room r p = record { width = r .width; wide = r .wide; room = omega (arith, r .room, p .rest .size) }
+-- a matrix of which a part was written has room as before
+outside-room : {w n h lo hi : ℕ} {m m′ : List ℕ} → Room w n h m → Outside lo hi m m′ → Room w n h m′
+outside-room r o = record { width = r .width; wide = r .wide; room = omega (arith, r .room, o .size) }
 
+pub made-row-room : {w n h b : ℕ} {P : ℕ → Type 0} {m m′ : List ℕ} → Room w n h m → MadeRow w b P m m′ → Room w n h m′
+made-row-room r p = outside-room r (p .rest)
+
+pub made-room : {w n h k : ℕ} {R : ℕ → ℕ → Type 0} {m m′ : List ℕ} → Room w n h m → Made w k R m m′ → Room w n h m′
+made-room r p = outside-room r (p .rest)
+
+-- and holds what it was made to
 pub made-given : {w n : ℕ} {R : ℕ → ℕ → Type 0} {m m′ : List ℕ} → Room w n n m → Made w n R m m′ → Given w n R m′
 made-given r p = record { has = made-room r p; holds = p .holds }

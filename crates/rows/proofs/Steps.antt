@@ -2,8 +2,10 @@
 use mathlib.Core.Path.{_≡_}
 use mathlib.Core.List.{List}
 use mathlib.Core.Logic.{_⊎_, inl, inr}
-use Prim.Native.Nat.{ℕ, _<_}
+use Prim.Native.Nat.{ℕ, _≤_, _<_}
+use native.Mathlib.Omega.{arith}
 use Rattle.laws.specs.Steps.{Rel, Plus, Plus.one, Plus.more}
+use Rattle.laws.proofs.Steps.{plus-rises}
 use Rattle.rows.specs.declared.set.Set.{Set}
 use Rattle.rows.specs.Sets.{Is}
 use Rattle.rows.specs.Rows.{On, Holds}
@@ -40,9 +42,26 @@ module _ {R S : Rel} {a b : ℕ} where
       by (one s) = inl (record { mid = t .mid; first = t .first; next = s })
       by (more {m = m} p s) = inr (record { mid = m; first = record { mid = t .mid; first = t .first; next = p }; next = s })
 
+pub plus-before : {S : Rel} {a m b : ℕ} → S a m → Plus S m b → Plus S a b
+plus-before s (one t) = more (one s) t
+plus-before s (more p t) = more (plus-before s p) t
+
+pub star-before : {S : Rel} {a m b : ℕ} → S a m → Star S m b → Star S a b
+star-before s here = on (one s)
+star-before s (on p) = on (plus-before s p)
+
 pub star-more : {S : Rel} {a m b : ℕ} → Star S a m → S m b → Star S a b
 star-more here s = on (one s)
 star-more (on p) s = on (more p s)
+
+-- by the first step
+pub plus-first : {S : Rel} {a b : ℕ} → Plus S a b → Then S (Star S) a b
+plus-first {b = b} (one s) = record { mid = b; first = s; next = here }
+plus-first (more p s) = let t = plus-first p in record { mid = t .mid; first = t .first; next = star-more (t .next) s }
+
+pub star-rises : {S : Rel} → ((a b : ℕ) → S a b → a < b) → {a b : ℕ} → Star S a b → a ≤ b
+star-rises f here = omega arith
+star-rises f {a} {b} (on p) = let l : a < b = plus-rises f p in omega arith
 
 -- R and then no step or more: R itself, or one more
 module _ {R S : Rel} {a b : ℕ} where

@@ -4,6 +4,13 @@ use Prim.Native.Nat.{ℕ, _<_}
 use Rattle.laws.specs.Steps.{Rel}
 use Rattle.rows.specs.Steps.{Leads, Star, Then}
 
+-- b is an arm of something that A relates a to, but U does not relate a to b itself
+pub record BesideBy (arm : List ℕ) (U A : Rel) (a b : ℕ) : Type 0 where
+  pub from : ℕ
+  pub is : Leads arm from b
+  pub among : A a from
+  pub not-under : ¬ U a b
+
 module _ (n : ℕ) (parent : List ℕ) where
   -- X relates a to something at or below b, among the numbers below n
   pub record Under (X : Rel) (a b : ℕ) : Type 0 where
@@ -20,11 +27,8 @@ module _ (n : ℕ) (parent : List ℕ) where
     pub under : Under X a of
 
   -- b is an arm, and X relates a to something at or below an arm beside it, but to nothing at or below b
-  pub record Beside (arm : List ℕ) (X : Rel) (a b : ℕ) : Type 0 where
-    pub from : ℕ
-    pub is : Leads arm from b
-    pub among : UnderArms arm X a from
-    pub not-under : ¬ Under X a b
+  abbrev pub Beside : List ℕ → Rel → Rel
+  Beside arm X = BesideBy arm (Under X) (UnderArms arm X)
 
   -- so at b or above it
   abbrev pub Apart : List ℕ → Rel → Rel

@@ -21,9 +21,12 @@ put-requires c κs = let turn = c .before .before .before .loop in room-row (mad
 
 loop-again : tie.Need-loop-again Inv-loop μ-loop
 loop-again c =
-    let turn = c .before .before .before .before .before .before .loop in
-    (omega arith, turn .inv .1, turn .inv .2,
-    made-more (turn .inv .3) (made-row-is (c .before .before .before .row .ensures) (λ a o. o .col) (c .before .before .put .ensures)))
+    let turn = c .before .before .before .before .before .before .loop in (
+      omega arith,
+      turn .inv .1,
+      turn .inv .2,
+      made-more (turn .inv .3) (made-row-is (c .before .before .before .row .ensures) (λ a o. o .col) (c .before .before .put .ensures)),
+    )
 
 same-length : tie.Need-same-length Inv-loop μ-loop
 same-length c = c .before .loop .inv .3 .rest .size

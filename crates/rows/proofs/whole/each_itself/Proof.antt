@@ -26,11 +26,13 @@ loop-again : tie.Need-loop-again Inv-loop μ-loop
 loop-again c =
     let turn = c .before .before .before .before .before .before .before .before .before .before .loop in
     let none = c .before .before .before .before .before .before .before .nothing .ensures in
-    let empty = c .before .before .before .before .before .before .put .ensures in
-    (omega arith, turn .inv .1,
-    made-more (turn .inv .2)
-    (made-row-trans empty
-    (made-row-iff (λ a. ⊎-elim (λ o. absurd (none .only a (empty .only a o .0))) (λ e. e)) (λ a. inr) (c .before .before .add .ensures))))
+    let empty = c .before .before .before .before .before .before .put .ensures in (
+      omega arith,
+      turn .inv .1,
+      made-more (turn .inv .2)
+          (made-row-trans empty
+          (made-row-iff (λ a. ⊎-elim (λ o. absurd (none .only a (empty .only a o .0))) (λ e. e)) (λ a. inr) (c .before .before .add .ensures))),
+    )
 
 same-length : tie.Need-same-length Inv-loop μ-loop
 same-length c = c .before .loop .inv .2 .rest .size

@@ -51,9 +51,9 @@ returns c =
     let all = rw e at (turn .inv .2) in
     says-iff
     (λ some.
-        let (a, i) = some-in _ some in
-        let s = all .only a i in
-        (s .row, (a, (s .low, s .on))))
+    let (a, i) = some-in _ some in
+    let s = all .only a i in
+    (s .row, (a, (s .low, s .on))))
     (λ z none. none (z .1 .0) (all .all (z .1 .0) (record { row = z .0; low = z .1 .1 .0; on = z .1 .1 .1 })))
     (says-not (c .is-empty .ensures))
 
