@@ -20,7 +20,9 @@ module _ {w n b : ℕ} (column m : List ℕ) (s : Set) (low : b < n) where
   elsewhere a p ne (was o) = o
   elsewhere a p ne (handed l _ _) = absurd (ne (sym (l .is)))
 
-  taken-in : {r t : Set} {m′ : List ℕ} → getD column b 0 < b → Is r (λ a. On w m a (getD column b 0)) → Is t (λ a. In r a ⊎ In s a) → MadeRow w (getD column b 0) (λ a. In t a × (a < 64 * w)) m m′ → Made w n (HandedUp w column m b s) m m′
+  taken-in :
+      {r t : Set} {m′ : List ℕ} → getD column b 0 < b → Is r (λ a. On w m a (getD column b 0)) → Is t (λ a. In r a ⊎ In s a)
+      → MadeRow w (getD column b 0) (λ a. In t a × (a < 64 * w)) m m′ → Made w n (HandedUp w column m b s) m m′
   taken-in {r} {t} {m′} falls i j k =
       made-again (getD column b 0) (omega arith) (λ a p ne. was) elsewhere (made-held (holds-itself w n m)) (made-row-iff to back k)
     where
@@ -49,8 +51,11 @@ put-requires c κs = room-row (c .before .before .before .before .before .before
 
 returns : tie.Need-returns
 returns c =
-    let a = c .before .before .before .before .before .before .before .before .before .before .before .args in
-    taken-in (a .column .now) (a .m .now) (a .«set») (c .before .before .before .before .before .before .before .before .before .before .before .pre .0) (c .before .before .before .before .before .before .before .if1 .taken) (c .before .before .before .before .before .row .ensures) (c .before .before .before .before .either .ensures) (c .before .before .put .ensures)
+    let set = c .before .before .before .before in
+    let entry = set .before .before .before .before .before .before .before in
+    let a = entry .args in
+    taken-in (a .column .now) (a .m .now) (a .«set») (entry .pre .0) (set .before .before .before .if1 .taken) (set .before .row .ensures)
+    (set .either .ensures) (c .before .before .put .ensures)
 
 returns-2 : tie.Need-returns-2
 returns-2 c = let a = c .before .before .before .before .args in led-nowhere (a .column .now) (a .m .now) (a .«set») (c .before .before .before .before .pre .0) (c .if1 .left)
