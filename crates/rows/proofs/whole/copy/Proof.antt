@@ -14,7 +14,7 @@ abbrev μ-loop : tie.MeasureT-loop
 μ-loop m out₀ w n b₀ out b = n - b
 
 row-requires : tie.Need-row-requires Inv-loop μ-loop
-row-requires c κs = let turn = c .before .before .loop in room-row (turn .inv .1) (turn .b) (omega arith)
+row-requires c κs = let turn = c .before .before .loop in room-row (turn .inv .1) _ (omega arith)
 
 put-requires : tie.Need-put-requires Inv-loop μ-loop
 put-requires c κs = let turn = c .before .before .before .loop in room-row (made-room (turn .inv .2) (turn .inv .3)) (turn .b) (omega arith)

@@ -37,7 +37,7 @@ loop-holds : tie.Need-loop-holds Inv-loop μ-loop
 loop-holds c = (omega arith, c .before .before .pre, is-iff (λ a z. absurd z) (λ a s. absurd (omega (arith, s .low))) (c .nothing .ensures))
 
 row-requires : tie.Need-row-requires Inv-loop μ-loop
-row-requires c κs = let turn = c .before .loop in room-row (turn .inv .1) (turn .b) (omega arith)
+row-requires c κs = let turn = c .before .loop in room-row (turn .inv .1) _ (omega arith)
 
 loop-again : tie.Need-loop-again Inv-loop μ-loop
 loop-again c =

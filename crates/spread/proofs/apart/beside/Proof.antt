@@ -2,12 +2,14 @@
 use native.Mathlib.Omega.{arith}
 use borrow.Author.Needs.{needs}
 use Rattle.rows.proofs.Sets.{is-iff, without-of}
-use Rattle.rows.proofs.Rows.{room-row}
+use Rattle.rows.proofs.Parts.{row-before}
 use Rattle.spread.proofs.apart.beside.Statement.{statement}
 use Rattle.spread.proofs.apart.beside.Tie as tie
 
 row-requires : tie.Need-row-requires
-row-requires c κs = room-row (c .before .before .before .before .pre .2) _ (omega arith)
+row-requires c κs =
+    let pre = c .before .before .before .before .pre in
+    record { width = pre .2 .width; room = omega (arith, pre .2 .room, pre .3 .room, row-before (c .before .before .before .before .args .w) (pre .0)) }
 
 returns : tie.Need-returns
 returns c =

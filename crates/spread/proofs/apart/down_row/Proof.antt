@@ -28,7 +28,7 @@ hand-up-requires : tie.Need-hand-up-requires
 hand-up-requires c κs = (omega arith, omega arith, made-row-room (entry (c .before .before .before .before .before) .pre .4) (c .before .before .before .put .ensures))
 
 hand-up-requires-2 : tie.Need-hand-up-requires-2
-hand-up-requires-2 c κs = let pre = entry (united (c .before .before .before)) .pre in (omega (arith, pre .0), omega (arith, pre .2), pre .5)
+hand-up-requires-2 c κs = let pre = entry (united (c .before .before .before)) .pre in (omega (arith, pre .0), omega (arith, pre .1, pre .2), pre .5)
 
 returns : tie.Need-returns
 returns c =
