@@ -1,0 +1,4 @@
+// Relations that are combined, row by row, from columns and from other relations.
+pub mod race;
+pub mod sequential;
+pub mod writes;

@@ -1,0 +1,56 @@
+// Races with earlier writes: the writes so far of a record's place, but for those that are before it or apart from it.
+use rows::row::add;
+use rows::row::put;
+use rows::row::row;
+use rows::set::Set;
+use rows::set::both;
+use rows::set::without;
+use rows::whole::clear;
+ghost use mathlib.Core.Path.{_≡_};
+ghost use Prim.Native.Nat.{_<_, _≤_};
+ghost use lib.ListN.{length, getD};
+ghost use Rattle.rows.specs.Sets.{Is};
+ghost use Rattle.rows.specs.Rows.{On, Room, Made};
+ghost use Rattle.combined.specs.Columns.{Placed, WritesAt};
+ghost use Rattle.combined.specs.Races.{RacesBefore, RaceRoom};
+
+// Row b, from the writes and the NA records before b.
+fn race_row(place: &[u8], order: &[u8], hb: &[u64], cf: &[u64], at: &[u64], na: &[u64], w: usize, b: usize) -> Set
+{
+    let here = row(at, w, place[b] as usize);
+    let racing = without(without(here, row(hb, w, b)), row(cf, w, b));
+    if order[b] == 0 {
+        return racing;
+    }
+    both(racing, row(na, w, 0))
+}
+
+// Row b: the earlier writes that race with b. In the end `at` has the writes of each place, and `na` the NA records.
+pub fn races(
+    place: &[u8],
+    kind: &[u8],
+    order: &[u8],
+    hb: &[u64],
+    cf: &[u64],
+    at: &mut [u64],
+    na: &mut [u64],
+    out: &mut [u64],
+    w: usize,
+    n: usize,
+)
+    requires { ⌜ RaceRoom w n (now place) (now kind) (now order) (now hb) (now cf) (now at) (now na) (now out) ⌝ }
+    ensures { λ _. ⌜ Made w 33 (WritesAt n (now (kind .entry)) (now (place .entry))) (now (at .entry)) (now (at .exit)) × Made w 1 (λ a l. (a < n) × (getD (now (order .entry)) a 0 ≡ l)) (now (na .entry)) (now (na .exit)) × Made w n (RacesBefore (now (place .entry)) (now (kind .entry)) (now (order .entry)) (On w (now (hb .entry))) (On w (now (cf .entry)))) (now (out .entry)) (now (out .exit)) ⌝ }
+{
+    clear(at, w, n, 33);
+    clear(na, w, n, 1);
+    for b in 0..n {
+        let racing = race_row(place, order, hb, cf, at, na, w, b);
+        put(out, w, b, racing);
+        if 2 <= kind[b] {
+            add(at, w, b, place[b] as usize);
+        }
+        if order[b] == 0 {
+            add(na, w, b, 0);
+        }
+    }
+}

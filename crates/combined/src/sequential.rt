@@ -1,0 +1,85 @@
+// The steps among SC records.
+use rows::row::drop;
+use rows::row::put;
+use rows::row::row;
+use rows::set::Set;
+use rows::set::both;
+use rows::set::either;
+use rows::set::nothing;
+use rows::set::without;
+ghost use mathlib.Core.Path.{_≡_};
+ghost use Prim.Native.Nat.{_<_, _≤_};
+ghost use lib.ListN.{length, getD};
+ghost use Rattle.rows.specs.Sets.{Is};
+ghost use Rattle.rows.specs.Rows.{On, Room, MadeRow, Made};
+ghost use Rattle.combined.specs.Sequential.{Elsewhere, Turned, Among, ElsewhereRoom, TurningRoom, AmongRoom};
+
+// Of what po relates, what stands at another place.
+pub fn elsewhere(place: &[u8], po: &[u64], at: &[u64], out: &mut [u64], w: usize, n: usize)
+    requires { ⌜ ElsewhereRoom w n (now place) (now po) (now at) (now out) ⌝ }
+    ensures { λ _. ⌜ Made w n (Elsewhere (now (place .entry)) (On w (now (po .entry))) (On w (now (at .entry)))) (now (out .entry)) (now (out .exit)) ⌝ }
+{
+    for b in 0..n {
+        put(out, w, b, without(row(po, w, b), row(at, w, place[b] as usize)));
+    }
+}
+
+// Row b: as its parent's, where both stand at one place; else what is elsewhere before b, or comes around to its parent.
+fn turn(parent: &[u8], place: &[u8], elsewhere: &[u64], around: &[u64], out: &[u64], w: usize, b: usize) -> Set
+{
+    let p = parent[b] as usize;
+    if p < b {
+        if (place[p] == place[b]) & (place[b] < 32) {
+            return row(out, w, p);
+        }
+        return either(row(elsewhere, w, b), row(around, w, p));
+    }
+    nothing()
+}
+
+pub fn detours(parent: &[u8], place: &[u8], elsewhere: &[u64], around: &[u64], out: &mut [u64], w: usize, n: usize)
+    requires { ⌜ TurningRoom w n (now parent) (now place) (now elsewhere) (now around) (now out) ⌝ }
+    ensures { λ _. ⌜ Made w n (Turned (now (parent .entry)) (now (place .entry)) (On w (now (elsewhere .entry))) (On w (now (around .entry)))) (now (out .entry)) (now (out .exit)) ⌝ }
+{
+    for b in 0..n {
+        let turned = turn(parent, place, elsewhere, around, out, w, b);
+        put(out, w, b, turned);
+    }
+}
+
+// Row b, of an SC record.
+fn steps_to(place: &[u8], orders: &[u64], at: &[u64], hb: &[u64], detour: &[u64], wb: &[u64], over: &[u64], out: &mut [u64], w: usize, b: usize)
+{
+    put(out, w, b, row(over, w, b));
+    drop(out, w, b, b);
+    let by_writes = either(row(out, w, b), row(wb, w, b));
+    let at_one_place = both(row(hb, w, b), row(at, w, place[b] as usize));
+    let steps = either(by_writes, either(row(detour, w, b), at_one_place));
+    put(out, w, b, both(steps, row(orders, w, 4)));
+}
+
+// Row 4 of `orders` has the SC records.
+pub fn among(
+    order: &[u8],
+    place: &[u8],
+    orders: &[u64],
+    at: &[u64],
+    hb: &[u64],
+    detour: &[u64],
+    wb: &[u64],
+    over: &[u64],
+    out: &mut [u64],
+    w: usize,
+    n: usize,
+)
+    requires { ⌜ AmongRoom w n (now order) (now place) (now orders) (now at) (now hb) (now detour) (now wb) (now over) (now out) ⌝ }
+    ensures { λ _. ⌜ Made w n (Among (now (order .entry)) (now (place .entry)) (On w (now (orders .entry))) (On w (now (at .entry))) (On w (now (hb .entry))) (On w (now (detour .entry))) (On w (now (wb .entry))) (On w (now (over .entry)))) (now (out .entry)) (now (out .exit)) ⌝ }
+{
+    for b in 0..n {
+        if order[b] == 4 {
+            steps_to(place, orders, at, hb, detour, wb, over, out, w, b);
+        } else {
+            put(out, w, b, nothing());
+        }
+    }
+}

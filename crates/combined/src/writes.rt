@@ -1,0 +1,64 @@
+// Steps from write to write: what owns something before a record is handed on to the record's own owners.
+use rows::led::from_either;
+use rows::row::add;
+use rows::row::drop;
+use rows::row::put;
+use rows::row::row;
+use rows::set::Set;
+use rows::set::both;
+use rows::set::either;
+use rows::whole::clear;
+ghost use Prim.Native.Nat.{_<_, _≤_};
+ghost use lib.ListN.{length, getD};
+ghost use Rattle.laws.specs.Steps.{Plus};
+ghost use Rattle.rows.specs.Sets.{In, Is};
+ghost use Rattle.rows.specs.Rows.{On, Room, MadeRow, Made};
+ghost use Rattle.rows.specs.Steps.{ByEither, Star, Then};
+ghost use Rattle.combined.specs.Writes.{Owning, HandedOn, HandingRoom};
+
+// Row `to` takes in the set, but for `to` itself.
+fn take_others(m: &mut [u64], w: usize, to: usize, set: Set)
+{
+    let joined = either(row(m, w, to), set);
+    put(m, w, to, joined);
+    drop(m, w, to, to);
+}
+
+// Row b of owners is completed by b's own owners, and these take in what owns something before b.
+fn hand_on(kind: &[u8], source: &[u8], owners: &mut [u64], out: &mut [u64], w: usize, b: usize, before: Set)
+{
+    if 2 <= kind[b] {
+        add(owners, w, b, b);
+        take_others(out, w, b, before);
+    }
+    let s = source[b] as usize;
+    if s < b {
+        add(owners, w, s, b);
+        take_others(out, w, s, before);
+    }
+}
+
+// What owns something that steps lead from to something that the row's number owns, at one place. In the end `owners` has what owns each
+// number or something before it.
+pub fn handed_on(
+    parent: &[u8],
+    sync: &[u8],
+    kind: &[u8],
+    source: &[u8],
+    place: &[u8],
+    at: &[u64],
+    owners: &mut [u64],
+    out: &mut [u64],
+    w: usize,
+    n: usize,
+)
+    requires { ⌜ HandingRoom w n (now parent) (now sync) (now kind) (now source) (now place) (now at) (now owners) (now out) ⌝ }
+    ensures { λ _. ⌜ Made w n (Then (Owning (now (kind .entry)) (now (source .entry))) (Star (ByEither (now (parent .entry)) (now (sync .entry))))) (now (owners .entry)) (now (owners .exit)) × Made w n (HandedOn n (now (parent .entry)) (now (sync .entry)) (now (kind .entry)) (now (source .entry)) (now (place .entry)) (On w (now (at .entry)))) (now (out .entry)) (now (out .exit)) ⌝ }
+{
+    clear(out, w, n, n);
+    for b in 0..n {
+        let before = from_either(parent, sync, owners, w, n, b);
+        put(owners, w, b, before);
+        hand_on(kind, source, owners, out, w, b, both(before, row(at, w, place[b] as usize)));
+    }
+}

@@ -1,0 +1,9 @@
+-- Laws of sets and rows of words.
+pub mod Digits
+pub mod Sets
+pub mod Parts
+pub mod Rows
+pub mod Trailing
+pub mod Leading
+pub mod Along
+pub mod Steps

@@ -1,0 +1,77 @@
+// Whole matrices: emptied, copied, and made of a column.
+use crate::row::add;
+use crate::row::put;
+use crate::row::row;
+use crate::set::either;
+use crate::set::is_empty;
+use crate::set::nothing;
+ghost use mathlib.Core.Path.{_≡_};
+ghost use Prim.Native.Nat.{ℕ, _<_, _≤_};
+ghost use lib.ListN.{length, getD};
+ghost use Rattle.laws.specs.Says.{Says};
+ghost use Rattle.rows.specs.Rows.{On, Holds, Room, Made};
+
+// The first h rows become empty.
+pub fn clear(m: &mut [u64], w: usize, n: usize, h: usize)
+    requires { ⌜ Room w n h (now m) ⌝ }
+    ensures { λ _. ⌜ Made w h (λ a b. ⊥) (now (m .entry)) (now (m .exit)) ⌝ }
+{
+    for b in 0..h {
+        put(m, w, b, nothing());
+    }
+}
+
+// The same relation in another matrix.
+pub fn copy(m: &[u64], out: &mut [u64], w: usize, n: usize)
+    requires { ⌜ Room w n n (now m) × Room w n n (now out) ⌝ }
+    ensures { λ _. ⌜ Made w n (On w (now (m .entry))) (now (out .entry)) (now (out .exit)) ⌝ }
+{
+    for b in 0..n {
+        put(out, w, b, row(m, w, b));
+    }
+}
+
+// Each number is related to itself alone.
+pub fn each_itself(out: &mut [u64], w: usize, n: usize)
+    requires { ⌜ Room w n n (now out) ⌝ }
+    ensures { λ _. ⌜ Made w n _≡_ (now (out .entry)) (now (out .exit)) ⌝ }
+{
+    for b in 0..n {
+        put(out, w, b, nothing());
+        add(out, w, b, b);
+    }
+}
+
+// Empty rows take in each number at the row that the column says.
+fn sort_in(column: &[u8], out: &mut [u64], w: usize, n: usize, h: usize)
+    requires { ⌜ (n ≤ length (now column)) × Room w n h (now out) × Holds w h (λ a b. ⊥) (now out) ⌝ }
+    ensures { λ _. ⌜ Made w h (λ a l. (a < n) × (getD (now (column .entry)) a 0 ≡ l)) (now (out .entry)) (now (out .exit)) ⌝ }
+{
+    for a in 0..n {
+        let l = column[a] as usize;
+        if l < h {
+            add(out, w, a, l);
+        }
+    }
+}
+
+// Row l becomes the numbers for which the column says l.
+pub fn sorted(column: &[u8], out: &mut [u64], w: usize, n: usize, h: usize)
+    requires { ⌜ (n ≤ length (now column)) × Room w n h (now out) ⌝ }
+    ensures { λ _. ⌜ Made w h (λ a l. (a < n) × (getD (now (column .entry)) a 0 ≡ l)) (now (out .entry)) (now (out .exit)) ⌝ }
+{
+    clear(out, w, n, h);
+    sort_in(column, out, w, n, h);
+}
+
+// Whether any row has a number.
+pub fn relates_any(m: &[u64], w: usize, n: usize) -> bool
+    requires { ⌜ Room w n n (now m) ⌝ }
+    ensures { λ r. ⌜ Says r ((b : ℕ) × ((a : ℕ) × ((b < n) × On w (now (m .entry)) a b))) ⌝ }
+{
+    let mut all = nothing();
+    for b in 0..n {
+        all = either(all, row(m, w, b));
+    }
+    !is_empty(all)
+}

@@ -1,0 +1,2 @@
+-- Laws of relations that spread.
+pub mod Arms

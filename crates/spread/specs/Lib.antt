@@ -1,0 +1,3 @@
+-- Relations that spread along steps that columns give.
+pub mod Apart
+pub mod Handed

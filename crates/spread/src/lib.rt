@@ -1,0 +1,3 @@
+// Relations that spread along steps that columns give, row by row.
+pub mod apart;
+pub mod onward;
