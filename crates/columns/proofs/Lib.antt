@@ -1,0 +1,4 @@
+-- What the columns of a table tell of its relations.
+pub mod Facts
+pub mod Before
+pub mod Apart
