@@ -235,3 +235,9 @@ module _ {t : Table} {n : ℕ} (k : Known t n) where
 
     pub one-location : getD place a 0 < noPlace → getD place a 0 ≡ getD place b 0 → OneLocation t a b
     one-location h e = place-location (t .at a .event) (t .at b .event) (omega (arith, h, c .says a i)) (sym (c .says a i) ∙ (e ∙ c .says b l))
+
+  -- a write stands somewhere
+  pub write-located : {place : List ℕ} (c : Column n (placeNumber t) place) {b : ℕ} → b < n → Write t b → getD place b 0 < noPlace
+  write-located c {b} l w =
+      let h = k .somewhere b l (λ e. subst (λ (x : Event). T (isWrite x)) e w) in
+      omega (arith, h, c .says b l)

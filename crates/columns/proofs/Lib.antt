@@ -2,3 +2,5 @@
 pub mod Facts
 pub mod Before
 pub mod Apart
+pub mod Races
+pub mod Writes
