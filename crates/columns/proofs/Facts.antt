@@ -144,6 +144,12 @@ location-place (Update o x v w) (Load p y u) h = eqb→eq x y h
 location-place (Update o x v w) (Store p y u) h = eqb→eq x y h
 location-place (Update o x v w) (Update p y u s) h = eqb→eq x y h
 
+no-location-init : (e : Event) → ¬ T (oneLocation e Init)
+no-location-init Init h = h
+no-location-init (Load o x v) h = h
+no-location-init (Store o x w) h = h
+no-location-init (Update o x v w) h = h
+
 module _ {t : Table} {n : ℕ} (k : Known t n) where
   pub inside : {b : ℕ} → b < n → Inside t b
   inside {b} l = omega (arith, k .all, l)
@@ -241,3 +247,9 @@ module _ {t : Table} {n : ℕ} (k : Known t n) where
   write-located c {b} l w =
       let h = k .somewhere b l (λ e. subst (λ (x : Event). T (isWrite x)) e w) in
       omega (arith, h, c .says b l)
+
+  -- what has one location with another stands somewhere
+  pub located : {place : List ℕ} (c : Column n (placeNumber t) place) (a b : ℕ) → b < n → OneLocation t a b → getD place b 0 < noPlace
+  located c a b l h =
+      let i = k .somewhere b l (λ e. no-location-init (t .at a .event) (subst (λ (x : Event). T (oneLocation (t .at a .event) x)) e h)) in
+      omega (arith, i, c .says b l)

@@ -4,3 +4,4 @@ pub mod Before
 pub mod Apart
 pub mod Races
 pub mod Writes
+pub mod Sequential
