@@ -1,4 +1,6 @@
 -- What the columns of a table tell of its relations.
+pub mod Filling
+pub mod BytesTell
 pub mod Facts
 pub mod Before
 pub mod Apart

@@ -90,3 +90,14 @@ pub record Known (t : Table) (n : ℕ) : Type 0 where
   pub few : n ≤ limit
   pub located : (b : ℕ) → b < n → placeOf (t .at b .event) ≤ noPlace
   pub somewhere : (b : ℕ) → b < n → ¬ (t .at b .event ≡ Init) → placeOf (t .at b .event) < noPlace
+
+-- all columns of such a table
+pub record Columns (t : Table) (n : ℕ) (parent arm source sync place kind order : List ℕ) : Type 0 where
+  pub known : Known t n
+  pub parents : Column n (parentNumber t) parent
+  pub arms : Column n (armNumber t) arm
+  pub sources : Column n (sourceNumber t) source
+  pub syncs : Column n (syncNumber t) sync
+  pub places : Column n (placeNumber t) place
+  pub kinds : Column n (kindNumber t) kind
+  pub orders : Column n (orderNumber t) order
