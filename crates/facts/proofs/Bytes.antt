@@ -47,7 +47,7 @@ module _ (o : Order) (x : ℕ) (v w : Value) where
   unfolding eventFrom
   updates-by = four (λ (k : ℕ). eqb k 3 ≡ isUpdate (eventFrom k o x v w)) refl refl refl refl
 
-  order-by : (k : ℕ) → k < 4 → pick (eqb k 0) Na o ≡ orderOf (eventFrom k o x v w)
+  pub order-by : (k : ℕ) → k < 4 → pick (eqb k 0) Na o ≡ orderOf (eventFrom k o x v w)
   unfolding eventFrom
   order-by = four (λ (k : ℕ). pick (eqb k 0) Na o ≡ orderOf (eventFrom k o x v w)) refl refl refl refl
 
@@ -89,7 +89,7 @@ module _ {b : List ℕ} {n : ℕ} (one : One b n) where
   field-told field = ap field (read-of one .same)
 
   -- a word on its event, by its kind
-  kind-told :
+  pub kind-told :
       {A : Type 0} (word : Event → A) (by-kind : ℕ → A)
       → ((k : ℕ) → k < 4 → by-kind k ≡ word (eventFrom k (orderFrom (orderByte bytes)) (locationByte bytes) (readFrom bytes) (writtenFrom bytes))) → {k : ℕ}
       → k ≡ kindByte bytes → by-kind k ≡ word (eventsOf b .at n .event)

@@ -22,7 +22,7 @@ use record::places::THREAD;
 use record::places::UPDATE;
 
 // Byte i of record n.
-fn byte(table: &[u8], n: usize, i: usize) -> u8
+pub fn byte(table: &[u8], n: usize, i: usize) -> u8
     requires { ⌜ One (now table) n × (i < recordSize) ⌝ }
     ensures { λ r. ⌜ r ≡ byteAt (part (now (table .entry)) n) i ⌝ }
 {

@@ -22,15 +22,15 @@ ByBranch t a b = (Linked (t .at a .parent) (λ p. Conflict t p b) ⊎ Linked (t 
 
 module _ {t : Table} (ok : WellFormed t) where
   -- two records that are apart conflict
-  apart-conflict : {a b : ℕ} → Inside t a → Inside t b → Apart t a b → Conflict t a b
+  pub apart-conflict : {a b : ℕ} → Inside t a → Inside t b → Apart t a b → Conflict t a b
   apart-conflict h k x = conflict-iff-cases ok h k .1 (themselves x)
 
   -- nothing between a record and its parent is above it
-  not-between : {a p b : ℕ} → Parent t p b → p < a → ¬ Po t a b
+  pub not-between : {a p b : ℕ} → Parent t p b → p < a → ¬ Po t a b
   not-between {a} {p} {b} e l u =
       ⊎-elim (λ (q : a ≡ p). omega arith) (λ v. let r = po-rises ok v in omega arith) (po-iff-parent t a p b e .0 u)
 
-  arms-apart : {a b : ℕ} → Arms t a b → Apart t a b
+  pub arms-apart : {a b : ℕ} → Arms t a b → Apart t a b
   arms-apart {a} {b} x = record {
     one-thread = x .one-thread;
     differ = x .differ;
@@ -41,7 +41,7 @@ module _ {t : Table} (ok : WellFormed t) where
   -- ---- two records that are apart are arms, or one of them is apart from the other's parent
 
   -- its whole thread stands below an Init
-  not-init : {a b : ℕ} → Inside t a → Inside t b → thread t a ≡ thread t b → ¬ (a ≡ b) → ¬ Po t a b → ¬ IsInit t a
+  pub not-init : {a b : ℕ} → Inside t a → Inside t b → thread t a ≡ thread t b → ¬ (a ≡ b) → ¬ Po t a b → ¬ IsInit t a
   not-init {a} {b} h k e differ n i =
       let c = init-of ok b k in
       by differ n (subst (λ (x : ℕ). AtOrAbove t x b) (one-init ok (c .inside) h (c .init) i (c .one-thread ∙ sym e)) (c .at-or-above))
@@ -64,7 +64,7 @@ module _ {t : Table} (ok : WellFormed t) where
     not-below = not-between e l;
   }
 
-  parent-within : {p a : ℕ} → Parent t p a → Inside t p
+  pub parent-within : {p a : ℕ} → Parent t p a → Inside t p
   parent-within {p} {a} e = omega (arith, parent-earlier ok p a e, parent-inside ok p a e)
 
   apart-by-branch : {a b : ℕ} → Inside t a → Inside t b → Apart t a b → ByBranch t a b

@@ -1,0 +1,3 @@
+-- The columns of a table.
+pub mod Columns
+pub mod Codes
