@@ -149,6 +149,12 @@ pub made-row-iff :
     {w b : ℕ} {P Q : ℕ → Type 0} {m m′ : List ℕ} → ((a : ℕ) → P a → Q a) → ((a : ℕ) → Q a → P a) → MadeRow w b P m m′ → MadeRow w b Q m m′
 made-row-iff f g r = record { rest = r .rest; all = λ a q. r .all a (g a q); only = λ a o. f a (r .only a o) }
 
+-- a row that was made to be a set whose numbers all have room
+pub made-row-is :
+    {w b : ℕ} {P : ℕ → Type 0} {s : Set} {m m′ : List ℕ} → Is s P → ((a : ℕ) → P a → a < 64 * w)
+    → MadeRow w b (λ a. In s a × (a < 64 * w)) m m′ → MadeRow w b P m m′
+made-row-is i low = made-row-iff (λ a z. i .only a (z .0)) (λ a p. (i .all a p, low a p))
+
 -- a row that is changed again
 pub made-row-trans : {w b : ℕ} {P Q : ℕ → Type 0} {m₀ m m′ : List ℕ} → MadeRow w b Q m₀ m → MadeRow w b P m m′ → MadeRow w b P m₀ m′
 made-row-trans p r = record { rest = outside-trans (p .rest) (r .rest); all = r .all; only = r .only }
@@ -186,6 +192,33 @@ made-more {w} {n} {R} {m₀} {m} {m′} k r =
         only = λ a. below-more (λ b. On w m′ a b → R a b) n (λ b l o. k .holds .only a b l (on-was n (r .rest) (λ e. omega (arith, e)) o)) (r .only a);
       };
     }
+
+-- one of the rows made anew
+pub made-again :
+    {w h : ℕ} {R S : ℕ → ℕ → Type 0} {m₀ m m′ : List ℕ} (l : ℕ) → l < h → ((a b : ℕ) → ¬ (b ≡ l) → R a b → S a b)
+    → ((a b : ℕ) → ¬ (b ≡ l) → S a b → R a b) → Made w h R m₀ m → MadeRow w l (λ a. S a l) m m′ → Made w h S m₀ m′
+made-again {w} {h} {R} {S} {m₀} {m} {m′} l low f g k r =
+    let e = row-before w low in
+    record {
+      rest = outside-trans (k .rest) (outside-wider (omega arith) (omega arith) (r .rest));
+      holds = record { all = λ a b i. all a b i (ℕ-discrete b l); only = λ a b i. only a b i (ℕ-discrete b l) };
+    }
+  where
+    all : (a b : ℕ) → b < h → Dec (b ≡ l) → S a b → On w m′ a b
+    all a b i (yes e) s = subst (On w m′ a) (sym e) (r .all a (subst (S a) e s))
+    all a b i (no n) s = on-kept l (r .rest) n (k .holds .all a b i (g a b n s))
+
+    only : (a b : ℕ) → b < h → Dec (b ≡ l) → On w m′ a b → S a b
+    only a b i (yes e) o = subst (S a) (sym e) (r .only a (subst (On w m′ a) e o))
+    only a b i (no n) o = f a b n (k .holds .only a b i (on-was l (r .rest) n o))
+
+-- rows that hold R already
+pub made-held : {w n : ℕ} {R : ℕ → ℕ → Type 0} {m : List ℕ} → Holds w n R m → Made w n R m m
+made-held h = record { rest = outside-none; holds = h }
+
+-- all of them made once more
+pub made-trans : {w n : ℕ} {R S : ℕ → ℕ → Type 0} {m m′ m″ : List ℕ} → Made w n R m m′ → Made w n S m′ m″ → Made w n S m m″
+made-trans p q = record { rest = outside-trans (p .rest) (q .rest); holds = q .holds }
 
 pub holds-iff :
     {w n : ℕ} {R S : ℕ → ℕ → Type 0} {m : List ℕ} → ((a b : ℕ) → b < n → R a b → S a b) → ((a b : ℕ) → b < n → S a b → R a b) → Holds w n R m → Holds w n S m

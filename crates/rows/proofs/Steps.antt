@@ -4,7 +4,11 @@ use mathlib.Core.List.{List}
 use mathlib.Core.Logic.{_⊎_, inl, inr}
 use Prim.Native.Nat.{ℕ, _<_}
 use Rattle.laws.specs.Steps.{Rel, Plus, Plus.one, Plus.more}
+use Rattle.rows.specs.declared.set.Set.{Set}
+use Rattle.rows.specs.Sets.{Is}
+use Rattle.rows.specs.Rows.{On, Holds}
 use Rattle.rows.specs.Steps.{Leads, ByEither, ByEither.by-first, ByEither.by-second, Star, Star.here, Star.on, Then}
+use Rattle.rows.proofs.Sets.{is-iff}
 
 module _ {R : Rel} {c d : List ℕ} {a b : ℕ} where
   pub either-then : Then R (Leads c) a b ⊎ Then R (Leads d) a b → Then R (ByEither c d) a b
@@ -53,3 +57,11 @@ module _ {R S : Rel} {a b : ℕ} where
       by m r here = inl r
       by m r (on (one s)) = inr (record { mid = m; first = record { mid = m; first = r; next = here }; next = s })
       by m r (on (more {m = k} p s)) = inr (record { mid = k; first = record { mid = m; first = r; next = on p }; next = s })
+
+-- a step to b comes from a row that holds R already
+pub then-held :
+    {w b : ℕ} {R S : Rel} {m : List ℕ} {r : Set} → ((v : ℕ) → S v b → v < b) → Holds w b R m → Is r (λ a. Then (On w m) S a b)
+    → Is r (λ a. Then R S a b)
+then-held rises h =
+    is-iff (λ a t. record { mid = t .mid; first = h .only a (t .mid) (rises (t .mid) (t .next)) (t .first); next = t .next })
+    (λ a t. record { mid = t .mid; first = h .all a (t .mid) (rises (t .mid) (t .next)) (t .first); next = t .next })

@@ -1,0 +1,2 @@
+-- Laws of the relations that are combined here.
+pub mod Turns
