@@ -1,2 +1,3 @@
 -- Laws of the relations that are combined here.
 pub mod Turns
+pub mod Ways

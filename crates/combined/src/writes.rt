@@ -1,7 +1,7 @@
 // Steps from write to write: what owns something before a record is handed on to the record's own owners.
+use crate::others::put_others;
 use rows::led::from_either;
 use rows::row::add;
-use rows::row::drop;
 use rows::row::put;
 use rows::row::row;
 use rows::set::Set;
@@ -22,8 +22,7 @@ fn take_others(m: &mut [u64], w: usize, to: usize, set: Set)
     ensures { λ _. ⌜ MadeRow w to (λ a. (On w (now (m .entry)) a to ⊎ (In set a × (a < 64 * w))) × (¬ (a ≡ to))) (now (m .entry)) (now (m .exit)) ⌝ }
 {
     let joined = either(row(m, w, to), set);
-    put(m, w, to, joined);
-    drop(m, w, to, to);
+    put_others(m, w, to, joined);
 }
 
 // Row b of owners is completed by b's own owners, and these take in the set.

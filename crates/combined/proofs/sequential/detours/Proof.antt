@@ -2,6 +2,7 @@
 use mathlib.Core.Path.{_≡_}
 use Prim.Native.Nat.{_-_, _≤_}
 use native.Mathlib.Omega.{arith}
+use borrow.Author.Count.{falls}
 use Rattle.rows.specs.Rows.{On, Made}
 use Rattle.rows.proofs.Rows.{room-row, made-none, made-more, made-row-is, made-room}
 use Rattle.combined.specs.Sequential.{Turned, TurningRoom}
@@ -36,6 +37,9 @@ put-requires c κs =
     let turn = c .before .before .before .before .loop in
     room-row (made-room (turn .inv .1 .for-out) (turn .inv .2)) (turn .b) (omega arith)
 
+loop-less : tie.Need-loop-less Inv-loop μ-loop
+loop-less c = falls _ _ (c .before .before .before .before .before .before .loop-test .taken)
+
 loop-again : tie.Need-loop-again Inv-loop μ-loop
 loop-again c =
     let turn = c .before .before .before .before .before .before .before .loop in
@@ -55,4 +59,4 @@ pub detours-spec : {M : Type 1} → statement M
 detours-spec =
     tie.close
     (tie.spec Inv-loop μ-loop (λ c. (omega arith, c .before .before .before .before .before .pre, made-none)) turn-requires put-requires (λ c. omega arith)
-    (λ c. omega arith) loop-again same-length returns)
+    loop-less loop-again same-length returns)
