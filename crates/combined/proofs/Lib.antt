@@ -1,3 +1,4 @@
 -- Laws of the relations that are combined here.
 pub mod Turns
 pub mod Ways
+pub mod Racing

@@ -240,6 +240,10 @@ holds-zeros w n k = record {
 pub room-row : {w n h : ℕ} {m : List ℕ} → Room w n h m → (b : ℕ) → b < h → HasRow w m b
 room-row {w} r b l = record { width = r .width; room = omega (arith, r .room, row-before w l) }
 
+-- room for a number in one of its rows
+pub room-place : {w n h : ℕ} {m : List ℕ} → Room w n h m → (a b : ℕ) → a < n → b < h → Place w m a b
+room-place r a b i l = record { col = omega (arith, r .wide); room = room-row r b l .room }
+
 -- a matrix of which rows were made has room as before, and holds what it was made to
 pub made-room : {w n h k : ℕ} {R : ℕ → ℕ → Type 0} {m m′ : List ℕ} → Room w n h m → Made w k R m m′ → Room w n h m′
 made-room r p = record { width = r .width; wide = r .wide; room = omega (arith, r .room, p .rest .size) }
