@@ -2,3 +2,4 @@
 pub mod Turns
 pub mod Ways
 pub mod Racing
+pub mod Handing

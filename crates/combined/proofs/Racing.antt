@@ -50,10 +50,6 @@ module _ {order : List ℕ} {b : ℕ} where
   pub order-down : (a l : ℕ) → OfOrder (b + 1) order a l → OfOrder b order a l ⊎ (a ≡ b)
   order-down a l x = below-or a b (x .low) (λ j. record { low = j; is = x .is })
 
--- nothing is noted at first
-pub none-below : {w h : ℕ} (R : Rel) {m : List ℕ} → ((a l : ℕ) → R a l → a < 0) → Holds w h (λ _ _. ⊥) m → Made w h R m m
-none-below R never held = made-held (holds-iff (λ a l _ x. absurd x) (λ a l _ r. let j = never a l r in omega arith) held)
-
 -- races with the writes so far, by the NA records so far
 module _
     {w b : ℕ} {place kind order at na : List ℕ} {H C : Rel} (writes : Holds w 33 (WritesAt b kind place) at) (nas : Holds w 1 (OfOrder b order) na)

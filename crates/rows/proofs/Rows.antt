@@ -229,6 +229,10 @@ pub made-iff :
     → Made w n R m m′ → Made w n S m m′
 made-iff f g p = record { rest = p .rest; holds = holds-iff f g (p .holds) }
 
+-- empty rows hold what never is
+pub made-never : {w n : ℕ} {R : ℕ → ℕ → Type 0} {m : List ℕ} → ((a b : ℕ) → ¬ R a b) → Holds w n (λ _ _. ⊥) m → Made w n R m m
+made-never never h = made-held (holds-iff (λ a b _ x. absurd x) (λ a b _ r. never a b r) h)
+
 -- words that are all 0 hold nothing
 pub holds-zeros : (w n k : ℕ) → Holds w n (λ _ _. ⊥) (replicate k 0)
 holds-zeros w n k = record {
@@ -247,6 +251,9 @@ room-place r a b i l = record { col = omega (arith, r .wide); room = room-row r 
 -- a matrix of which rows were made has room as before, and holds what it was made to
 pub made-room : {w n h k : ℕ} {R : ℕ → ℕ → Type 0} {m m′ : List ℕ} → Room w n h m → Made w k R m m′ → Room w n h m′
 made-room r p = record { width = r .width; wide = r .wide; room = omega (arith, r .room, p .rest .size) }
+
+pub made-row-room : {w n h b : ℕ} {P : ℕ → Type 0} {m m′ : List ℕ} → Room w n h m → MadeRow w b P m m′ → Room w n h m′
+made-row-room r p = record { width = r .width; wide = r .wide; room = omega (arith, r .room, p .rest .size) }
 
 pub made-given : {w n : ℕ} {R : ℕ → ℕ → Type 0} {m m′ : List ℕ} → Room w n n m → Made w n R m m′ → Given w n R m′
 made-given r p = record { has = made-room r p; holds = p .holds }

@@ -6,10 +6,10 @@ use borrow.Author.Count.{falls}
 use lib.ListN.{length}
 use Rattle.rows.specs.Rows.{On, Room, Made}
 use Rattle.rows.proofs.Sets.{is-iff}
-use Rattle.rows.proofs.Rows.{room-row, made-none, made-more, made-row-is, made-room, made-trans}
+use Rattle.rows.proofs.Rows.{room-row, made-none, made-more, made-row-is, made-room, made-trans, made-never}
 use Rattle.combined.specs.Columns.{Placed, WritesAt, OfOrder}
 use Rattle.combined.specs.Races.{RacesBefore, RaceRoom}
-use Rattle.combined.proofs.Racing.{none-below, races-before, races-from}
+use Rattle.combined.proofs.Racing.{races-before, races-from}
 use Rattle.combined.proofs.race.races.Statement.{statement}
 use Rattle.combined.proofs.race.races.Tie as tie
 
@@ -37,8 +37,8 @@ loop-holds c =
       },
       pre .1,
       pre .2),
-     none-below _ (λ a l x. x .low) (at .holds),
-     none-below _ (λ a l x. x .low) (na .holds),
+     made-never (λ a l x. omega (arith, x .low)) (at .holds),
+     made-never (λ a l x. omega (arith, x .low)) (na .holds),
      made-none)
 
 race-row-requires : tie.Need-race-row-requires Inv-loop μ-loop

@@ -3,7 +3,7 @@ use mathlib.Core.Path.{_≡_}
 use native.Mathlib.Omega.{arith}
 use Rattle.rows.specs.Rows.{On, Room, HasRow, MadeRow}
 use Rattle.rows.proofs.Sets.{is-iff}
-use Rattle.rows.proofs.Rows.{room-row, made-row-is, made-row-trans}
+use Rattle.rows.proofs.Rows.{room-row, made-row-is, made-row-trans, made-row-room}
 use Rattle.combined.specs.Sequential.{AmongRoom}
 use Rattle.combined.proofs.Ways.{stepping, stepped, known-others}
 use Rattle.combined.proofs.sequential.steps_to.Statement.{statement}
@@ -26,14 +26,11 @@ steps-from-requires c κs =
        for-hb = pre .1 .for-hb;
        for-detour = pre .1 .for-detour;
        for-wb = pre .1 .for-wb;
-       for-over = record { width = pre .2 .width; wide = pre .2 .wide; room = omega (arith, pre .2 .room, c .before .before .before .put-others .ensures .rest .size) };
+       for-over = made-row-room (pre .2) (c .before .before .before .put-others .ensures);
      })
 
 put-requires : tie.Need-put-requires
-put-requires c κs =
-    let pre = c .before .before .before .before .before .before .before .before .before .before .before .before .before .before .before .before .pre in
-    let has = room-row (pre .2) _ (pre .0) in
-    record { width = has .width; room = omega (arith, has .room, c .before .before .before .before .before .put-others .ensures .rest .size) }
+put-requires c κs = let pre = c .before .before .before .before .before .before .before .before .before .before .before .before .before .before .before .before .pre in room-row (made-row-room (pre .2) (c .before .before .before .before .before .put-others .ensures)) _ (pre .0)
 
 returns : tie.Need-returns
 returns c =
