@@ -20,7 +20,7 @@ module _ {w h b : ℕ} (R S : Rel) {m : List ℕ} (up : (a l : ℕ) → R a l �
   noted {l} low here one r =
       made-again l low (λ a k ne. up a k) (λ a k ne s. ⊎-elim (λ x. x) (λ e. absurd (ne (one k (subst (λ (z : ℕ). S z k) e s)))) (down a k s)) (made-held held)
       (made-row-iff (λ a. ⊎-elim (λ o. up a l (held .only a l low o)) (λ e. subst (λ (z : ℕ). S z l) (sym e) here))
-       (λ a s. ⊎-map (held .all a l low) (λ e. e) (down a l s)) r)
+      (λ a s. ⊎-map (held .all a l low) (λ e. e) (down a l s)) r)
 
   -- S has b in no row
   pub not-noted : ((k : ℕ) → k < h → ¬ S b k) → Made w h S m m
@@ -55,23 +55,23 @@ module _
     {w b : ℕ} {place kind order at na : List ℕ} {H C : Rel} (writes : Holds w 33 (WritesAt b kind place) at) (nas : Holds w 1 (OfOrder b order) na)
     (low : getD place b 0 < 33)
     {a : ℕ}
-    where
-  pub races-before : RacesFrom place order (On w at) (On w na) H C a b → RacesBefore place kind order H C a b
-  races-before r =
-      let write = writes .only a (getD place b 0) low (r .here) in
-      record {
-        earlier = write .low;
-        writes = write .writes;
-        one-place = write .at;
-        not-atomic = ⊎-map (λ o. nas .only a 0 (omega arith) o .is) (λ e. e) (r .not-atomic);
-        not-before = r .not-before;
-        no-conflict = r .no-conflict;
-      }
+  where
+    pub races-before : RacesFrom place order (On w at) (On w na) H C a b → RacesBefore place kind order H C a b
+    races-before r =
+        let write = writes .only a (getD place b 0) low (r .here) in
+        record {
+          earlier = write .low;
+          writes = write .writes;
+          one-place = write .at;
+          not-atomic = ⊎-map (λ o. nas .only a 0 (omega arith) o .is) (λ e. e) (r .not-atomic);
+          not-before = r .not-before;
+          no-conflict = r .no-conflict;
+        }
 
-  pub races-from : RacesBefore place kind order H C a b → RacesFrom place order (On w at) (On w na) H C a b
-  races-from r = record {
-    here = writes .all a (getD place b 0) low (record { low = r .earlier; writes = r .writes; at = r .one-place });
-    not-atomic = ⊎-map (λ e. nas .all a 0 (omega arith) (record { low = r .earlier; is = e })) (λ e. e) (r .not-atomic);
-    not-before = r .not-before;
-    no-conflict = r .no-conflict;
-  }
+    pub races-from : RacesBefore place kind order H C a b → RacesFrom place order (On w at) (On w na) H C a b
+    races-from r = record {
+      here = writes .all a (getD place b 0) low (record { low = r .earlier; writes = r .writes; at = r .one-place });
+      not-atomic = ⊎-map (λ e. nas .all a 0 (omega arith) (record { low = r .earlier; is = e })) (λ e. e) (r .not-atomic);
+      not-before = r .not-before;
+      no-conflict = r .no-conflict;
+    }

@@ -14,7 +14,17 @@ ghost use Rattle.combined.specs.Columns.{Placed, WritesAt, OfOrder};
 ghost use Rattle.combined.specs.Races.{RacesBefore, RacesFrom, RaceRoom};
 
 // Row b, from the writes and the NA records before b.
-fn race_row(place: &[u8], order: &[u8], hb: &[u64], cf: &[u64], at: &[u64], na: &[u64], w: usize, n: usize, b: usize) -> Set
+fn race_row(
+    place: &[u8],
+    order: &[u8],
+    hb: &[u64],
+    cf: &[u64],
+    at: &[u64],
+    na: &[u64],
+    w: usize,
+    n: usize,
+    b: usize,
+) -> Set
     requires { ⌜ (b < n) × RaceRoom w n (now place) (now order) (now hb) (now cf) (now at) (now na) ⌝ }
     ensures { λ r. ⌜ Is r (λ a. RacesFrom (now (place .entry)) (now (order .entry)) (On w (now (at .entry))) (On w (now (na .entry))) (On w (now (hb .entry))) (On w (now (cf .entry))) a b) ⌝ }
 {

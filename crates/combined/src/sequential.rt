@@ -20,12 +20,26 @@ pub fn elsewhere(place: &[u8], po: &[u64], at: &[u64], out: &mut [u64], w: usize
     ensures { λ _. ⌜ Made w n (Elsewhere (now (place .entry)) (On w (now (po .entry))) (On w (now (at .entry)))) (now (out .entry)) (now (out .exit)) ⌝ }
 {
     for b in 0..n {
-        put(out, w, b, without(row(po, w, b), row(at, w, place[b] as usize)));
+        put(
+            out,
+            w,
+            b,
+            without(row(po, w, b), row(at, w, place[b] as usize)),
+        );
     }
 }
 
 // Row b: as its parent's, where both stand at one place; else what is elsewhere before b, or comes around to its parent.
-fn turn(parent: &[u8], place: &[u8], elsewhere: &[u64], around: &[u64], out: &[u64], w: usize, n: usize, b: usize) -> Set
+fn turn(
+    parent: &[u8],
+    place: &[u8],
+    elsewhere: &[u64],
+    around: &[u64],
+    out: &[u64],
+    w: usize,
+    n: usize,
+    b: usize,
+) -> Set
     requires { ⌜ (b < n) × TurningRoom w n (now parent) (now place) (now elsewhere) (now around) (now out) × Holds w b (Turned (now parent) (now place) (On w (now elsewhere)) (On w (now around))) (now out) ⌝ }
     ensures { λ r. ⌜ Is r (λ a. Turned (now (parent .entry)) (now (place .entry)) (On w (now (elsewhere .entry))) (On w (now (around .entry))) a b) ⌝ }
 {
@@ -39,7 +53,15 @@ fn turn(parent: &[u8], place: &[u8], elsewhere: &[u64], around: &[u64], out: &[u
     nothing()
 }
 
-pub fn detours(parent: &[u8], place: &[u8], elsewhere: &[u64], around: &[u64], out: &mut [u64], w: usize, n: usize)
+pub fn detours(
+    parent: &[u8],
+    place: &[u8],
+    elsewhere: &[u64],
+    around: &[u64],
+    out: &mut [u64],
+    w: usize,
+    n: usize,
+)
     requires { ⌜ TurningRoom w n (now parent) (now place) (now elsewhere) (now around) (now out) ⌝ }
     ensures { λ _. ⌜ Made w n (Turned (now (parent .entry)) (now (place .entry)) (On w (now (elsewhere .entry))) (On w (now (around .entry)))) (now (out .entry)) (now (out .exit)) ⌝ }
 {
@@ -50,7 +72,18 @@ pub fn detours(parent: &[u8], place: &[u8], elsewhere: &[u64], around: &[u64], o
 }
 
 // What steps to b among SC records, where row b of `others` has what is over b, but for b itself.
-fn steps_from(place: &[u8], orders: &[u64], at: &[u64], hb: &[u64], detour: &[u64], wb: &[u64], others: &[u64], w: usize, n: usize, b: usize) -> Set
+fn steps_from(
+    place: &[u8],
+    orders: &[u64],
+    at: &[u64],
+    hb: &[u64],
+    detour: &[u64],
+    wb: &[u64],
+    others: &[u64],
+    w: usize,
+    n: usize,
+    b: usize,
+) -> Set
     requires { ⌜ (b < n) × AmongRoom w n (now place) (now orders) (now at) (now hb) (now detour) (now wb) (now others) ⌝ }
     ensures { λ r. ⌜ Is r (λ a. ((On w (now (others .entry)) a b ⊎ On w (now (wb .entry)) a b) ⊎ (On w (now (detour .entry)) a b ⊎ (On w (now (hb .entry)) a b × On w (now (at .entry)) a (getD (now (place .entry)) b 0)))) × On w (now (orders .entry)) a 4) ⌝ }
 {

@@ -26,7 +26,16 @@ fn take_others(m: &mut [u64], w: usize, to: usize, set: Set)
 }
 
 // Row b of owners is completed by b's own owners, and these take in the set.
-fn hand_on(kind: &[u8], source: &[u8], owners: &mut [u64], out: &mut [u64], w: usize, n: usize, b: usize, set: Set)
+fn hand_on(
+    kind: &[u8],
+    source: &[u8],
+    owners: &mut [u64],
+    out: &mut [u64],
+    w: usize,
+    n: usize,
+    b: usize,
+    set: Set,
+)
     requires { ⌜ (b < n) × OwningRoom w n (now kind) (now source) (now owners) (now out) × NoneItself w n (now out) ⌝ }
     ensures { λ _. ⌜ Handed w n b (λ o. Owning (now (kind .entry)) (now (source .entry)) o b) (λ a. In set a × (a < 64 * w)) (now (owners .entry)) (now (out .entry)) (now (owners .exit)) (now (out .exit)) ⌝ }
 {
@@ -62,6 +71,15 @@ pub fn handed_on(
     for b in 0..n {
         let before = from_either(parent, sync, owners, w, n, b);
         put(owners, w, b, before);
-        hand_on(kind, source, owners, out, w, n, b, both(before, row(at, w, place[b] as usize)));
+        hand_on(
+            kind,
+            source,
+            owners,
+            out,
+            w,
+            n,
+            b,
+            both(before, row(at, w, place[b] as usize)),
+        );
     }
 }

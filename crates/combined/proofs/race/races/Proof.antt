@@ -25,35 +25,39 @@ loop-holds : tie.Need-loop-holds Inv-loop μ-loop
 loop-holds c =
     let pre = c .before .before .before .before .before .before .before .before .before .before .before .before .before .before .before .before .pre in
     let at = c .before .before .before .before .before .before .clear .ensures in
-    let na = c .before .before .clear2 .ensures in
-    (omega arith,
-     (record {
-        placed = pre .0 .placed;
-        orders = pre .0 .orders;
-        for-hb = pre .0 .for-hb;
-        for-cf = pre .0 .for-cf;
-        for-at = made-room (pre .0 .for-at) at;
-        for-na = made-room (pre .0 .for-na) na;
-      },
-      pre .1,
-      pre .2),
-     made-never (λ a l x. omega (arith, x .low)) (at .holds),
-     made-never (λ a l x. omega (arith, x .low)) (na .holds),
-     made-none)
+    let na = c .before .before .clear2 .ensures in (
+      omega arith,
+      (
+        record {
+          placed = pre .0 .placed;
+          orders = pre .0 .orders;
+          for-hb = pre .0 .for-hb;
+          for-cf = pre .0 .for-cf;
+          for-at = made-room (pre .0 .for-at) at;
+          for-na = made-room (pre .0 .for-na) na;
+        },
+        pre .1,
+        pre .2,
+      ),
+      made-never (λ a l x. omega (arith, x .low)) (at .holds),
+      made-never (λ a l x. omega (arith, x .low)) (na .holds),
+      made-none,
+    )
 
 race-row-requires : tie.Need-race-row-requires Inv-loop μ-loop
 race-row-requires c κs =
     let inv = c .before .before .before .loop .inv in
-    let room = inv .1 .0 in
-    (c .before .before .loop-test .taken,
-     record {
-       placed = room .placed;
-       orders = room .orders;
-       for-hb = room .for-hb;
-       for-cf = room .for-cf;
-       for-at = made-room (room .for-at) (inv .2);
-       for-na = made-room (room .for-na) (inv .3);
-     })
+    let room = inv .1 .0 in (
+      c .before .before .loop-test .taken,
+      record {
+        placed = room .placed;
+        orders = room .orders;
+        for-hb = room .for-hb;
+        for-cf = room .for-cf;
+        for-at = made-room (room .for-at) (inv .2);
+        for-na = made-room (room .for-na) (inv .3);
+      },
+    )
 
 put-requires : tie.Need-put-requires Inv-loop μ-loop
 put-requires c κs = let inv = c .before .before .before .before .before .loop .inv in room-row (made-room (inv .1 .2) (inv .4)) _ (c .before .before .before .before .loop-test .taken)
@@ -78,16 +82,17 @@ loop-again : tie.Need-loop-again Inv-loop μ-loop
 loop-again c =
     let turn = c .before .before .before .before .before .before .before .before .before .before .before .before .before .before .before .before .loop in
     let low = c .before .before .before .before .before .before .before .before .before .before .before .before .before .before .before .loop-test .taken in
-    let inv = turn .inv in
-    (omega (arith, low),
-     inv .1,
-     made-trans (inv .2) (c .before .before .before .before .before .before .note-write .ensures),
-     made-trans (inv .3) (c .before .before .note-na .ensures),
-     made-more (inv .4)
-     (made-row-is
-      (is-iff (λ a. races-before (inv .2 .holds) (inv .3 .holds) (omega (arith, inv .1 .0 .placed .known (turn .b) low)))
-       (λ a. races-from (inv .2 .holds) (inv .3 .holds) (omega (arith, inv .1 .0 .placed .known (turn .b) low))) (c .before .before .before .before .before .before .before .before .before .before .before .before .race-row .ensures))
-      (λ a r. omega (arith, r .earlier, low, inv .1 .2 .wide)) (c .before .before .before .before .before .before .before .before .before .before .put .ensures)))
+    let inv = turn .inv in (
+      omega (arith, low),
+      inv .1,
+      made-trans (inv .2) (c .before .before .before .before .before .before .note-write .ensures),
+      made-trans (inv .3) (c .before .before .note-na .ensures),
+      made-more (inv .4)
+          (made-row-is
+          (is-iff (λ a. races-before (inv .2 .holds) (inv .3 .holds) (omega (arith, inv .1 .0 .placed .known (turn .b) low)))
+          (λ a. races-from (inv .2 .holds) (inv .3 .holds) (omega (arith, inv .1 .0 .placed .known (turn .b) low))) (c .before .before .before .before .before .before .before .before .before .before .before .before .race-row .ensures))
+          (λ a r. omega (arith, r .earlier, low, inv .1 .2 .wide)) (c .before .before .before .before .before .before .before .before .before .before .put .ensures)),
+    )
 
 returns : tie.Need-returns Inv-loop μ-loop
 returns c =

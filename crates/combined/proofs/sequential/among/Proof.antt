@@ -38,17 +38,19 @@ loop-again c =
     let low = c .before .before .loop-test .taken in
     ⊎-elim
     (λ y.
-        rw (y .5)
-        (omega (arith, low),
-         inv .1,
-         made-more (inv .2)
-         (made-row-iff (λ a z. record { sc-a = z .0; sc-b = y .0 .taken; by = z .1 }) (λ a s. (s .sc-a, s .by)) (y .2 .ensures))))
+    rw (y .5) (
+      omega (arith, low),
+      inv .1,
+      made-more (inv .2)
+          (made-row-iff (λ a z. record { sc-a = z .0; sc-b = y .0 .taken; by = z .1 }) (λ a s. (s .sc-a, s .by)) (y .2 .ensures)),
+    ))
     (λ y.
-        rw (y .6)
-        (omega (arith, low),
-         inv .1,
-         made-more (inv .2)
-         (made-row-is (is-iff (λ a z. absurd z) (λ a s. y .0 .left (s .sc-b)) (y .2 .ensures)) (λ a s. s .sc-a .col) (y .3 .ensures))))
+    rw (y .6) (
+      omega (arith, low),
+      inv .1,
+      made-more (inv .2)
+          (made-row-is (is-iff (λ a z. absurd z) (λ a s. y .0 .left (s .sc-b)) (y .2 .ensures)) (λ a s. s .sc-a .col) (y .3 .ensures)),
+    ))
     (c .if1 .came)
 
 same-length : tie.Need-same-length Inv-loop μ-loop

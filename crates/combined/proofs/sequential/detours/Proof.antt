@@ -21,16 +21,17 @@ abbrev μ-loop : tie.MeasureT-loop
 turn-requires : tie.Need-turn-requires Inv-loop μ-loop
 turn-requires c κs =
     let turn = c .before .before .loop in
-    let room = turn .inv .1 in
-    (c .before .loop-test .taken,
-     record {
-       placed = room .placed;
-       parents = room .parents;
-       for-elsewhere = room .for-elsewhere;
-       for-around = room .for-around;
-       for-out = made-room (room .for-out) (turn .inv .2);
-     },
-     turn .inv .2 .holds)
+    let room = turn .inv .1 in (
+      c .before .loop-test .taken,
+      record {
+        placed = room .placed;
+        parents = room .parents;
+        for-elsewhere = room .for-elsewhere;
+        for-around = room .for-around;
+        for-out = made-room (room .for-out) (turn .inv .2);
+      },
+      turn .inv .2 .holds,
+    )
 
 put-requires : tie.Need-put-requires Inv-loop μ-loop
 put-requires c κs =
@@ -42,10 +43,11 @@ loop-less c = falls _ _ (c .before .before .before .before .before .before .loop
 
 loop-again : tie.Need-loop-again Inv-loop μ-loop
 loop-again c =
-    let turn = c .before .before .before .before .before .before .before .loop in
-    (omega arith,
-     turn .inv .1,
-     made-more (turn .inv .2) (made-row-is (c .before .before .before .before .turn .ensures) (λ a. turned-low) (c .before .before .put .ensures)))
+    let turn = c .before .before .before .before .before .before .before .loop in (
+      omega arith,
+      turn .inv .1,
+      made-more (turn .inv .2) (made-row-is (c .before .before .before .before .turn .ensures) (λ a. turned-low) (c .before .before .put .ensures)),
+    )
 
 same-length : tie.Need-same-length Inv-loop μ-loop
 same-length c = c .before .loop .inv .2 .rest .size

@@ -36,12 +36,13 @@ loop-again : tie.Need-loop-again Inv-loop μ-loop
 loop-again c =
     let turn = c .before .before .before .before .before .before .before .before .before .loop in
     let here = without-of (c .before .before .before .before .before .before .row .ensures) (c .before .before .before .before .row2 .ensures)
-            (c .before .before .before .without .ensures) in
-    (omega arith,
-     turn .inv .1,
-     made-more (turn .inv .2)
-     (made-row-is (is-iff (λ a z. record { before = z .0; not-here = z .1 }) (λ a e. (e .before, e .not-here)) here) (λ a e. e .before .col)
-      (c .before .before .put .ensures)))
+    (c .before .before .before .without .ensures) in (
+      omega arith,
+      turn .inv .1,
+      made-more (turn .inv .2)
+          (made-row-is (is-iff (λ a z. record { before = z .0; not-here = z .1 }) (λ a e. (e .before, e .not-here)) here) (λ a e. e .before .col)
+          (c .before .before .put .ensures)),
+    )
 
 same-length : tie.Need-same-length Inv-loop μ-loop
 same-length c = c .before .loop .inv .2 .rest .size

@@ -17,17 +17,18 @@ put-others-requires c κs = let pre = c .before .before .before .before .before 
 
 steps-from-requires : tie.Need-steps-from-requires
 steps-from-requires c κs =
-    let pre = c .before .before .before .before .before .before .before .before .before .before .before .before .before .before .pre in
-    (pre .0,
-     record {
-       placed = pre .1 .placed;
-       for-orders = pre .1 .for-orders;
-       for-at = pre .1 .for-at;
-       for-hb = pre .1 .for-hb;
-       for-detour = pre .1 .for-detour;
-       for-wb = pre .1 .for-wb;
-       for-over = made-row-room (pre .2) (c .before .before .before .put-others .ensures);
-     })
+    let pre = c .before .before .before .before .before .before .before .before .before .before .before .before .before .before .pre in (
+      pre .0,
+      record {
+        placed = pre .1 .placed;
+        for-orders = pre .1 .for-orders;
+        for-at = pre .1 .for-at;
+        for-hb = pre .1 .for-hb;
+        for-detour = pre .1 .for-detour;
+        for-wb = pre .1 .for-wb;
+        for-over = made-row-room (pre .2) (c .before .before .before .put-others .ensures);
+      },
+    )
 
 put-requires : tie.Need-put-requires
 put-requires c κs = let pre = c .before .before .before .before .before .before .before .before .before .before .before .before .before .before .before .before .pre in room-row (made-row-room (pre .2) (c .before .before .before .before .before .put-others .ensures)) _ (pre .0)
@@ -37,8 +38,8 @@ returns c =
     let others = known-others (c .before .before .before .before .before .before .before .before .before .row .ensures) (c .before .before .before .before .before .before .before .before .put-others .ensures) in
     made-row-trans others
     (made-row-is
-     (is-iff (λ a z. (z .1, stepping (others .only a) (z .0))) (λ a z. (stepped (others .all a) (z .1), z .0)) (c .before .before .before .before .steps-from .ensures))
-     (λ a z. z .0 .col) (c .before .before .put .ensures))
+    (is-iff (λ a z. (z .1, stepping (others .only a) (z .0))) (λ a z. (stepped (others .all a) (z .1), z .0)) (c .before .before .before .before .steps-from .ensures))
+    (λ a z. z .0 .col) (c .before .before .put .ensures))
 
 pub steps-to-spec : {M : Type 1} → statement M
 steps-to-spec =

@@ -26,13 +26,13 @@ entry c = c .before .before .before .before .before
 first :
     (c : tie.Joined1)
     → Handed (entry (c .before) .args .w) (entry (c .before) .args .n) (entry (c .before) .args .b) (λ o. (2 ≤ getD (entry (c .before) .args .kind .now) (entry (c .before) .args .b) 0) × (o ≡ entry (c .before) .args .b))
-      (λ a. In (entry (c .before) .args .set) a × (a < 64 * entry (c .before) .args .w)) (entry (c .before) .args .owners .now) (entry (c .before) .args .out .now) (c .if1 .owners) (c .if1 .out)
+    (λ a. In (entry (c .before) .args .set) a × (a < 64 * entry (c .before) .args .w)) (entry (c .before) .args .owners .now) (entry (c .before) .args .out .now) (c .if1 .owners) (c .if1 .out)
 first c =
     ⊎-elim
     (λ y.
-        rw (y .9, y .10)
-        (handed-iff (λ o. ⊎-elim (λ z. absurd z) (λ e. (y .0 .taken, e))) (λ o z. inr (z .1))
-         (handed-more (entry (c .before) .pre .2) (entry (c .before) .pre .0) handed-none (y .2 .ensures) (y .6 .ensures))))
+    rw (y .9, y .10)
+    (handed-iff (λ o. ⊎-elim (λ z. absurd z) (λ e. (y .0 .taken, e))) (λ o z. inr (z .1))
+    (handed-more (entry (c .before) .pre .2) (entry (c .before) .pre .0) handed-none (y .2 .ensures) (y .6 .ensures))))
     (λ y. rw (y .1, y .2) (handed-iff (λ o z. absurd z) (λ o z. omega (arith, y .0 .left, z .0)) handed-none)) (c .if1 .came)
 
 shared-slice-read-s : tie.Need-shared-slice-read-s
@@ -48,9 +48,10 @@ add-requires-2 c κs =
 
 take-others-requires-2 : tie.Need-take-others-requires-2
 take-others-requires-2 c κs =
-    let pre = entry (c .before .before .before .before .before .before .before .before) .pre in
-    (room-row (made-room (pre .1 .for-out) (first (c .before .before .before .before .before .before .before) .taken)) _ (omega (arith, c .before .before .before .before .before .if2 .taken, pre .0)),
-     omega (arith, c .before .before .before .before .before .if2 .taken, pre .0, pre .1 .for-out .wide))
+    let pre = entry (c .before .before .before .before .before .before .before .before) .pre in (
+      room-row (made-room (pre .1 .for-out) (first (c .before .before .before .before .before .before .before) .taken)) _ (omega (arith, c .before .before .before .before .before .if2 .taken, pre .0)),
+      omega (arith, c .before .before .before .before .before .if2 .taken, pre .0, pre .1 .for-out .wide),
+    )
 
 returns : tie.Need-returns
 returns c =

@@ -27,22 +27,23 @@ abbrev μ-loop : tie.MeasureT-loop
 loop-holds : tie.Need-loop-holds Inv-loop μ-loop
 loop-holds c =
     let pre = c .before .before .before .before .before .before .before .before .before .before .before .before .pre in
-    let cleared = c .before .before .clear .ensures in
-    (omega arith,
-     record {
-       placed = pre .placed;
-       parents = pre .parents;
-       syncs = pre .syncs;
-       for-at = pre .for-at;
-       owning = record {
-         kinds = pre .owning .kinds;
-         sources = pre .owning .sources;
-         for-owners = pre .owning .for-owners;
-         for-out = made-room (pre .owning .for-out) cleared;
-       };
-     },
-     made-none,
-     made-never (λ a o h. omega (arith, h .low)) (cleared .holds))
+    let cleared = c .before .before .clear .ensures in (
+      omega arith,
+      record {
+        placed = pre .placed;
+        parents = pre .parents;
+        syncs = pre .syncs;
+        for-at = pre .for-at;
+        owning = record {
+          kinds = pre .owning .kinds;
+          sources = pre .owning .sources;
+          for-owners = pre .owning .for-owners;
+          for-out = made-room (pre .owning .for-out) cleared;
+        };
+      },
+      made-none,
+      made-never (λ a o h. omega (arith, h .low)) (cleared .holds),
+    )
 
 from-either-requires : tie.Need-from-either-requires Inv-loop μ-loop
 from-either-requires c κs =
@@ -66,15 +67,16 @@ row-requires c κs =
 hand-on-requires : tie.Need-hand-on-requires Inv-loop μ-loop
 hand-on-requires c κs =
     let inv = c .before .before .before .before .before .before .before .before .before .before .before .before .loop .inv in
-    let room = inv .1 .owning in
-    (c .before .before .before .before .before .before .before .before .before .before .before .loop-test .taken,
-     record {
-       kinds = room .kinds;
-       sources = room .sources;
-       for-owners = made-row-room (made-room (room .for-owners) (inv .2)) (c .before .before .before .before .before .before .before .put .ensures);
-       for-out = made-room (room .for-out) (inv .3);
-     },
-     record { apart = λ o l x. inv .3 .holds .only o o l x .differ refl })
+    let room = inv .1 .owning in (
+      c .before .before .before .before .before .before .before .before .before .before .before .loop-test .taken,
+      record {
+        kinds = room .kinds;
+        sources = room .sources;
+        for-owners = made-row-room (made-room (room .for-owners) (inv .2)) (c .before .before .before .before .before .before .before .put .ensures);
+        for-out = made-room (room .for-out) (inv .3);
+      },
+      record { apart = λ o l x. inv .3 .holds .only o o l x .differ refl },
+    )
 
 loop-less : tie.Need-loop-less Inv-loop μ-loop
 loop-less c = falls _ _ (c .before .before .before .before .before .before .before .before .before .before .before .before .before .before .before .before .loop-test .taken)
@@ -90,14 +92,15 @@ loop-again c =
     let led = then-held (λ v. either-rises) (inv .2 .holds) from in
     let before = made-row-is led (λ a t. from .only a (led .all a t) .first .col) (c .before .before .before .before .before .before .before .before .before .before .before .before .put .ensures) in
     let set = both-of (is-iff (λ a. star-step) (λ a. step-star) led) (c .before .before .before .before .before .before .row .ensures) (c .before .before .before .before .before .both .ensures) in
-    let handed = c .before .before .before .before .hand-on .ensures in
-    (omega (arith, low),
-     inv .1,
-     made-more (inv .2)
-     (made-row-trans before
-      (made-row-iff (λ o. ⊎-elim (λ y. then-star (inr (before .only o y))) (λ p. then-star (inl p)))
-       (λ o t. ⊎-elim inr (λ y. inl (before .all o y)) (star-then t)) (handed .owned))),
-     made-trans (inv .3) (made-iff (λ a o l. taking-handed (inv .3 .holds) set l) (λ a o l. handed-taking (inv .3 .holds) set l) (handed .taken)))
+    let handed = c .before .before .before .before .hand-on .ensures in (
+      omega (arith, low),
+      inv .1,
+      made-more (inv .2)
+          (made-row-trans before
+          (made-row-iff (λ o. ⊎-elim (λ y. then-star (inr (before .only o y))) (λ p. then-star (inl p)))
+          (λ o t. ⊎-elim inr (λ y. inl (before .all o y)) (star-then t)) (handed .owned))),
+      made-trans (inv .3) (made-iff (λ a o l. taking-handed (inv .3 .holds) set l) (λ a o l. handed-taking (inv .3 .holds) set l) (handed .taken)),
+    )
 
 returns : tie.Need-returns Inv-loop μ-loop
 returns c =
