@@ -8,7 +8,7 @@ use Rattle.combined.proofs.others.put_others.Tie as tie
 drop-requires : tie.Need-drop-requires
 drop-requires c κs =
     let pre = c .before .before .before .before .before .before .pre in
-    record { col = pre .1; room = omega (arith, pre .0 .room, c .before .before .before .put .ensures .rest .size) }
+    record { col = omega (arith, pre .1); room = omega (arith, pre .0 .room, c .before .before .before .put .ensures .rest .size) }
 
 returns : tie.Need-returns
 returns c =

@@ -17,7 +17,7 @@ abbrev μ-loop : tie.MeasureT-loop
 μ-loop place po at out₀ w n b₀ out b = n - b
 
 row-requires : tie.Need-row-requires Inv-loop μ-loop
-row-requires c κs = let turn = c .before .before .loop in room-row (turn .inv .1 .for-po) (turn .b) (omega arith)
+row-requires c κs = let turn = c .before .before .loop in room-row (turn .inv .1 .for-po) _ (omega arith)
 
 cast-row : tie.Need-cast-row Inv-loop μ-loop
 cast-row c = omega (arith, c .shared-slice-known4 .given (c .before .before .before .before .loop .b))

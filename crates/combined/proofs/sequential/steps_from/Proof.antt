@@ -30,7 +30,7 @@ row-requires-5 : tie.Need-row-requires-5
 row-requires-5 c κs = let start = c .before .before .before .before .before .before .before .before .before .before .before .before .before .before in room-row (start .pre .1 .for-detour) _ (start .pre .0)
 
 row-requires-6 : tie.Need-row-requires-6
-row-requires-6 c κs = room-row (c .before .before .before .before .before .before .before .before .before .before .before .before .before .before .before .before .before .pre .1 .for-orders) 4 (omega arith)
+row-requires-6 c κs = room-row (c .before .before .before .before .before .before .before .before .before .before .before .before .before .before .before .before .before .pre .1 .for-orders) _ (omega arith)
 
 returns : tie.Need-returns
 returns c =
