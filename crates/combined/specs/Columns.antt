@@ -14,3 +14,8 @@ pub record WritesAt (n : ℕ) (kind place : List ℕ) (a l : ℕ) : Type 0 where
   pub low : a < n
   pub writes : 2 ≤ getD kind a 0
   pub at : getD place a 0 ≡ l
+
+-- a is of the order l
+pub record OfOrder (n : ℕ) (order : List ℕ) (a l : ℕ) : Type 0 where
+  pub low : a < n
+  pub is : getD order a 0 ≡ l

@@ -17,13 +17,18 @@ pub record RacesBefore (place kind order : List ℕ) (H C : Rel) (a b : ℕ) : T
   pub not-before : ¬ H a b
   pub no-conflict : ¬ C a b
 
+-- the same, from those At each place and those that are NA
+pub record RacesFrom (place order : List ℕ) (At Na H C : Rel) (a b : ℕ) : Type 0 where
+  pub here : At a (getD place b 0)
+  pub not-atomic : Na a 0 ⊎ (getD order b 0 ≡ 0)
+  pub not-before : ¬ H a b
+  pub no-conflict : ¬ C a b
+
 -- columns and room for them
-pub record RaceRoom (w n : ℕ) (place kind order hb cf at na out : List ℕ) : Type 0 where
+pub record RaceRoom (w n : ℕ) (place order hb cf at na : List ℕ) : Type 0 where
   pub placed : Placed n place
-  pub kinds : n ≤ length kind
   pub orders : n ≤ length order
   pub for-hb : Room w n n hb
   pub for-cf : Room w n n cf
   pub for-at : Room w n 33 at
   pub for-na : Room w n 1 na
-  pub for-out : Room w n n out

@@ -51,13 +51,11 @@ pub record TurningRoom (w n : ℕ) (parent place elsewhere around out : List ℕ
   pub for-around : Room w n n around
   pub for-out : Room w n n out
 
-pub record AmongRoom (w n : ℕ) (order place orders at hb detour wb over out : List ℕ) : Type 0 where
+pub record AmongRoom (w n : ℕ) (place orders at hb detour wb over : List ℕ) : Type 0 where
   pub placed : Placed n place
-  pub all-orders : n ≤ length order
   pub for-orders : Room w n 5 orders
   pub for-at : Room w n 33 at
   pub for-hb : Room w n n hb
   pub for-detour : Room w n n detour
   pub for-wb : Room w n n wb
   pub for-over : Room w n n over
-  pub for-out : Room w n n out

@@ -232,6 +232,10 @@ pub made-iff :
     → Made w n R m m′ → Made w n S m m′
 made-iff f g p = record { rest = p .rest; holds = holds-iff f g (p .holds) }
 
+-- empty rows hold what never is
+pub made-never : {w n : ℕ} {R : ℕ → ℕ → Type 0} {m : List ℕ} → ((a b : ℕ) → ¬ R a b) → Holds w n (λ _ _. ⊥) m → Made w n R m m
+made-never never h = made-held (holds-iff (λ a b _ x. absurd x) (λ a b _ r. never a b r) h)
+
 -- words that are all 0 hold nothing
 pub holds-zeros : (w n k : ℕ) → Holds w n (λ _ _. ⊥) (replicate k 0)
 holds-zeros w n k = record {
@@ -242,6 +246,10 @@ holds-zeros w n k = record {
 -- room for one of its rows
 pub room-row : {w n h : ℕ} {m : List ℕ} → Room w n h m → (b : ℕ) → b < h → HasRow w m b
 room-row {w} r b l = record { width = r .width; room = omega (arith, r .room, row-before w l) }
+
+-- room for a number in one of its rows
+pub room-place : {w n h : ℕ} {m : List ℕ} → Room w n h m → (a b : ℕ) → a < n → b < h → Place w m a b
+room-place r a b i l = record { col = omega (arith, r .wide); room = room-row r b l .room }
 
 -- a matrix of which a part was written has room as before
 outside-room : {w n h lo hi : ℕ} {m m′ : List ℕ} → Room w n h m → Outside lo hi m m′ → Room w n h m′

@@ -50,9 +50,12 @@ pub star-before : {S : Rel} {a m b : ℕ} → S a m → Star S m b → Star S a 
 star-before s here = on (one s)
 star-before s (on p) = on (plus-before s p)
 
+star-plus : {S : Rel} {a m b : ℕ} → Star S a m → S m b → Plus S a b
+star-plus here s = one s
+star-plus (on p) s = more p s
+
 pub star-more : {S : Rel} {a m b : ℕ} → Star S a m → S m b → Star S a b
-star-more here s = on (one s)
-star-more (on p) s = on (more p s)
+star-more t s = on (star-plus t s)
 
 -- by the first step
 pub plus-first : {S : Rel} {a b : ℕ} → Plus S a b → Then S (Star S) a b
@@ -76,6 +79,18 @@ module _ {R S : Rel} {a b : ℕ} where
       by m r here = inl r
       by m r (on (one s)) = inr (record { mid = m; first = record { mid = m; first = r; next = here }; next = s })
       by m r (on (more {m = k} p s)) = inr (record { mid = k; first = record { mid = m; first = r; next = on p }; next = s })
+
+-- R, no step or more, and one more: R and one step or more
+module _ {R S : Rel} {a b : ℕ} where
+  pub star-step : Then (Then R (Star S)) S a b → Then R (Plus S) a b
+  star-step t = record { mid = t .first .mid; first = t .first .first; next = star-plus (t .first .next) (t .next) }
+
+  pub step-star : Then R (Plus S) a b → Then (Then R (Star S)) S a b
+  step-star t = by (t .mid) (t .first) (t .next)
+    where
+      by : (m : ℕ) → R a m → Plus S m b → Then (Then R (Star S)) S a b
+      by m r (one s) = record { mid = m; first = record { mid = m; first = r; next = here }; next = s }
+      by m r (more {m = k} p s) = record { mid = k; first = record { mid = m; first = r; next = on p }; next = s }
 
 -- a step to b comes from a row that holds R already
 pub then-held :
