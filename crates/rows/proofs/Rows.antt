@@ -193,6 +193,10 @@ made-more {w} {n} {R} {m₀} {m} {m′} k r =
       };
     }
 
+-- all of the rows, where a loop over them ends
+pub made-whole : {w b n : ℕ} {R : ℕ → ℕ → Type 0} {m m′ : List ℕ} → b ≡ n → Made w b R m m′ → Made w n R m m′
+made-whole {w} {b} {n} {R} {m} {m′} e = subst (λ (k : ℕ). Made w k R m m′) e
+
 -- one of the rows made anew
 pub made-again :
     {w h : ℕ} {R S : ℕ → ℕ → Type 0} {m₀ m m′ : List ℕ} (l : ℕ) → l < h → ((a b : ℕ) → ¬ (b ≡ l) → R a b → S a b)
