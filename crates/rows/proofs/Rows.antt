@@ -7,14 +7,14 @@ use native.Mathlib.Nat.{add-zero}
 use native.Mathlib.Omega.{arith}
 use native.Mathlib.Decide.{ℕ-discrete, decLt}
 use lib.Bits.{bitAnd, bitOr, bitXor}
-use lib.ListN.{length, getD, set, replicate}
+use lib.ListN.{getD, set, replicate}
 use lib.Seq.{getD-set-same, getD-set-other}
 use borrow.Author.Count.{below-more}
 use Rattle.rows.specs.declared.set.Set.{Set}
 use Rattle.rows.specs.Sets.{digit, wordOf, In, Is}
-use Rattle.rows.specs.Rows.{Width, On, Holds, HasRow, Place, Room, Given, Outside, MadeRow, Made}
+use Rattle.rows.specs.Rows.{On, Holds, HasRow, Place, Room, Given, Outside, MadeRow, Made}
 use Rattle.rows.proofs.Digits.{Bit, bit-iff, bit-at, bit-is, bit-yes, digit-is, digit-dec, digit-or, digit-less, digit-one, never-in-zero}
-use Rattle.rows.proofs.Parts.{row-before, row-apart, outside-none, outside-wider, outside-trans, outside-set, Filled, filled-none, filled-more, zeros}
+use Rattle.rows.proofs.Parts.{row-before, row-apart, outside-none, outside-wider, outside-trans, outside-set, Filled, zeros}
 
 pub on-dec : (w : ℕ) (m : List ℕ) (a b : ℕ) → Dec (On w m a b)
 on-dec w m a b = by (decLt a (64 * w)) (digit-dec (getD m (b * w + a / 64) 0) (a % 64))
@@ -192,6 +192,10 @@ made-more {w} {n} {R} {m₀} {m} {m′} k r =
         only = λ a. below-more (λ b. On w m′ a b → R a b) n (λ b l o. k .holds .only a b l (on-was n (r .rest) (λ e. omega (arith, e)) o)) (r .only a);
       };
     }
+
+-- all of the rows, where a loop over them ends
+pub made-whole : {w b n : ℕ} {R : ℕ → ℕ → Type 0} {m m′ : List ℕ} → b ≡ n → Made w b R m m′ → Made w n R m m′
+made-whole {w} {b} {n} {R} {m} {m′} e = subst (λ (k : ℕ). Made w k R m m′) e
 
 -- one of the rows made anew
 pub made-again :

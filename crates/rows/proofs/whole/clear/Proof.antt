@@ -1,9 +1,8 @@
 -- `whole::clear` meets its contract: the first b rows are empty.
-use mathlib.Core.Path.{_≡_}
 use Prim.Native.Nat.{_-_, _≤_}
 use native.Mathlib.Omega.{arith}
 use Rattle.rows.specs.Rows.{Room, Made}
-use Rattle.rows.proofs.Rows.{room-row, made-none, made-more, made-row-iff, made-room}
+use Rattle.rows.proofs.Rows.{room-row, made-none, made-more, made-whole, made-row-iff, made-room}
 use Rattle.rows.proofs.whole.clear.Statement.{statement}
 use Rattle.rows.proofs.whole.clear.Tie as tie
 
@@ -26,9 +25,7 @@ same-length : tie.Need-same-length Inv-loop μ-loop
 same-length c = c .before .loop .inv .2 .rest .size
 
 returns : tie.Need-returns Inv-loop μ-loop
-returns c =
-    let e : c .before .loop .b ≡ c .before .before .before .args .h = omega arith in
-    rw e at (c .before .loop .inv .2)
+returns c = made-whole (omega arith) (c .before .loop .inv .2)
 
 pub clear-spec : {M : Type 1} → statement M
 clear-spec =

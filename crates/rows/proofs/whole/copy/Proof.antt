@@ -1,9 +1,8 @@
 -- `whole::copy` meets its contract: the first b rows are copied.
-use mathlib.Core.Path.{_≡_}
 use Prim.Native.Nat.{_-_, _≤_}
 use native.Mathlib.Omega.{arith}
 use Rattle.rows.specs.Rows.{On, Room, Made}
-use Rattle.rows.proofs.Rows.{room-row, made-none, made-more, made-row-is, made-room}
+use Rattle.rows.proofs.Rows.{room-row, made-none, made-more, made-whole, made-row-is, made-room}
 use Rattle.rows.proofs.whole.copy.Statement.{statement}
 use Rattle.rows.proofs.whole.copy.Tie as tie
 
@@ -32,9 +31,7 @@ same-length : tie.Need-same-length Inv-loop μ-loop
 same-length c = c .before .loop .inv .3 .rest .size
 
 returns : tie.Need-returns Inv-loop μ-loop
-returns c =
-    let e : c .before .loop .b ≡ c .before .before .before .before .args .n = omega arith in
-    rw e at (c .before .loop .inv .3)
+returns c = made-whole (omega arith) (c .before .loop .inv .3)
 
 pub copy-spec : {M : Type 1} → statement M
 copy-spec =

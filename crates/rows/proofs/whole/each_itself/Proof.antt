@@ -1,10 +1,10 @@
 -- `whole::each_itself` meets its contract: each of the first b rows has its own number.
 use mathlib.Core.Path.{_≡_}
-use mathlib.Core.Logic.{_⊎_, inl, inr, ⊎-elim}
+use mathlib.Core.Logic.{inr, ⊎-elim}
 use Prim.Native.Nat.{_-_, _≤_}
 use native.Mathlib.Omega.{arith}
 use Rattle.rows.specs.Rows.{Room, Made}
-use Rattle.rows.proofs.Rows.{room-row, made-none, made-more, made-row-iff, made-row-trans, made-room}
+use Rattle.rows.proofs.Rows.{room-row, made-none, made-more, made-whole, made-row-iff, made-row-trans, made-room}
 use Rattle.rows.proofs.whole.each_itself.Statement.{statement}
 use Rattle.rows.proofs.whole.each_itself.Tie as tie
 
@@ -38,9 +38,7 @@ same-length : tie.Need-same-length Inv-loop μ-loop
 same-length c = c .before .loop .inv .2 .rest .size
 
 returns : tie.Need-returns Inv-loop μ-loop
-returns c =
-    let e : c .before .loop .b ≡ c .before .before .before .args .n = omega arith in
-    rw e at (c .before .loop .inv .2)
+returns c = made-whole (omega arith) (c .before .loop .inv .2)
 
 pub each-itself-spec : {M : Type 1} → statement M
 each-itself-spec =

@@ -1,5 +1,4 @@
 -- `whole::sorted` meets its contract: emptied, then sorted in.
-use mathlib.Core.Path.{_∙_}
 use native.Mathlib.Omega.{arith}
 use borrow.Author.Needs.{needs}
 use Rattle.rows.proofs.Rows.{made-room, made-trans}

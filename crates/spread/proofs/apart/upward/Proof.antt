@@ -1,11 +1,10 @@
 -- `apart::upward` meets its contract: the first b rows hold what stands beside a number or one above it.
-use mathlib.Core.Path.{_≡_}
 use Prim.Native.Nat.{_-_, _≤_}
 use native.Mathlib.Omega.{arith}
 use Rattle.rows.specs.Rows.{On, Room, Made}
 use Rattle.rows.specs.Steps.{Leads, Star, Then}
 use Rattle.rows.proofs.Sets.{is-iff, either-of}
-use Rattle.rows.proofs.Rows.{room-row, made-none, made-more, made-row-is, made-room}
+use Rattle.rows.proofs.Rows.{room-row, made-none, made-more, made-whole, made-row-is, made-room}
 use Rattle.rows.proofs.Steps.{then-held, then-star, star-then}
 use Rattle.spread.specs.Apart.{BesideBy}
 use Rattle.spread.proofs.apart.upward.Statement.{statement}
@@ -35,9 +34,7 @@ same-length : tie.Need-same-length Inv-loop μ-loop
 same-length c = c .before .loop .inv .2 .rest .size
 
 returns : tie.Need-returns Inv-loop μ-loop
-returns c =
-    let e : c .before .loop .b ≡ c .before .before .before .before .before .before .before .args .n = omega arith in
-    rw e at (c .before .loop .inv .2)
+returns c = made-whole (omega arith) (c .before .loop .inv .2)
 
 pub upward-spec : {M : Type 1} → statement M
 upward-spec =

@@ -1,12 +1,11 @@
 -- `onward::onward` meets its contract: the first b rows hold what x relates and then steps lead on.
-use mathlib.Core.Path.{_≡_}
 use Prim.Native.Nat.{_-_, _≤_}
 use native.Mathlib.Omega.{arith}
 use Rattle.laws.specs.Steps.{Plus}
 use Rattle.rows.specs.Rows.{On, Room, Made}
 use Rattle.rows.specs.Steps.{ByEither, Then}
 use Rattle.rows.proofs.Sets.{is-iff, either-of}
-use Rattle.rows.proofs.Rows.{room-row, made-none, made-more, made-row-is, made-room}
+use Rattle.rows.proofs.Rows.{room-row, made-none, made-more, made-whole, made-row-is, made-room}
 use Rattle.rows.proofs.Steps.{either-rises, then-held, then-plus, plus-then}
 use Rattle.spread.proofs.onward.onward.Statement.{statement}
 use Rattle.spread.proofs.onward.onward.Tie as tie
@@ -35,9 +34,7 @@ same-length : tie.Need-same-length Inv-loop μ-loop
 same-length c = c .before .loop .inv .2 .rest .size
 
 returns : tie.Need-returns Inv-loop μ-loop
-returns c =
-    let e : c .before .loop .b ≡ c .before .before .before .before .before .before .args .n = omega arith in
-    rw e at (c .before .loop .inv .2)
+returns c = made-whole (omega arith) (c .before .loop .inv .2)
 
 pub onward-spec : {M : Type 1} → statement M
 onward-spec =
