@@ -27,19 +27,25 @@ shared-slice-read-if1 c = let pre = c .before .before .before .before .before .b
 
 returns : tie.Need-returns
 returns c =
+    let racing = c .before .before in
     is-iff (λ a z. record { here = z .0 .0; not-atomic = inr (c .if1 .taken); not-before = z .0 .1; no-conflict = z .1 })
     (λ a r. ((r .here, r .not-before), r .no-conflict))
-    (without-of (without-of (c .before .before .before .before .before .before .row .ensures) (c .before .before .before .before .before .row2 .ensures) (c .before .before .before .before .without .ensures)) (c .before .before .before .row3 .ensures) (c .before .before .without2 .ensures))
+    (without-of
+    (without-of (racing .before .before .before .before .row .ensures) (racing .before .before .before .row2 .ensures) (racing .before .before .without .ensures))
+    (racing .before .row3 .ensures) (racing .without2 .ensures))
 
 row-requires-4 : tie.Need-row-requires-4
 row-requires-4 c κs = room-row (c .before .before .before .before .before .before .before .before .before .before .before .before .before .before .pre .1 .for-na) 0 (omega arith)
 
 returns-2 : tie.Need-returns-2
 returns-2 c =
-    let racing = without-of (without-of (c .before .before .before .before .before .before .before .before .row .ensures) (c .before .before .before .before .before .before .before .row2 .ensures) (c .before .before .before .before .before .before .without .ensures)) (c .before .before .before .before .before .row3 .ensures) (c .before .before .before .before .without2 .ensures) in
+    let racing = c .before .before .before .before in
+    let known = without-of
+    (without-of (racing .before .before .before .before .row .ensures) (racing .before .before .before .row2 .ensures) (racing .before .before .without .ensures))
+    (racing .before .row3 .ensures) (racing .without2 .ensures) in
     is-iff (λ a z. record { here = z .0 .0 .0; not-atomic = inl (z .1); not-before = z .0 .0 .1; no-conflict = z .0 .1 })
     (λ a r. (((r .here, r .not-before), r .no-conflict), ⊎-elim (λ o. o) (λ e. absurd (c .before .before .if1 .left e)) (r .not-atomic)))
-    (both-of racing (c .before .row4 .ensures) (c .both .ensures))
+    (both-of known (c .before .row4 .ensures) (c .both .ensures))
 
 pub race-row-spec : {M : Type 1} → statement M
 race-row-spec =

@@ -80,8 +80,9 @@ loop-less c = falls _ _ (c .before .before .before .before .before .before .befo
 
 loop-again : tie.Need-loop-again Inv-loop μ-loop
 loop-again c =
-    let turn = c .before .before .before .before .before .before .before .before .before .before .before .before .before .before .before .before .loop in
-    let low = c .before .before .before .before .before .before .before .before .before .before .before .before .before .before .before .loop-test .taken in
+    let filled = c .before .before .before .before .before .before .before .before .before .before in
+    let turn = filled .before .before .before .before .before .before .loop in
+    let low = filled .before .before .before .before .before .loop-test .taken in
     let inv = turn .inv in (
       omega (arith, low),
       inv .1,
@@ -90,8 +91,8 @@ loop-again c =
       made-more (inv .4)
           (made-row-is
           (is-iff (λ a. races-before (inv .2 .holds) (inv .3 .holds) (omega (arith, inv .1 .0 .placed .known (turn .b) low)))
-          (λ a. races-from (inv .2 .holds) (inv .3 .holds) (omega (arith, inv .1 .0 .placed .known (turn .b) low))) (c .before .before .before .before .before .before .before .before .before .before .before .before .race-row .ensures))
-          (λ a r. omega (arith, r .earlier, low, inv .1 .2 .wide)) (c .before .before .before .before .before .before .before .before .before .before .put .ensures)),
+          (λ a. races-from (inv .2 .holds) (inv .3 .holds) (omega (arith, inv .1 .0 .placed .known (turn .b) low))) (filled .before .before .race-row .ensures))
+          (λ a r. omega (arith, r .earlier, low, inv .1 .2 .wide)) (filled .put .ensures)),
     )
 
 returns : tie.Need-returns Inv-loop μ-loop

@@ -34,8 +34,10 @@ row-requires-6 c κs = room-row (c .before .before .before .before .before .befo
 
 returns : tie.Need-returns
 returns c =
-    let by-writes = either-of (c .before .before .before .before .before .before .before .before .before .before .before .row .ensures) (c .before .before .before .before .before .before .before .before .before .before .row2 .ensures) (c .before .before .before .before .before .before .before .before .before .either .ensures) in
-    let at-one-place = both-of (c .before .before .before .before .before .before .before .before .row3 .ensures) (c .before .before .before .before .before .before .row4 .ensures) (c .before .before .before .before .before .both .ensures) in
+    let place = c .before .before .before .before .before in
+    let by-writes = either-of (place .before .before .before .before .before .before .row .ensures) (place .before .before .before .before .before .row2 .ensures)
+    (place .before .before .before .before .either .ensures) in
+    let at-one-place = both-of (place .before .before .before .row3 .ensures) (place .before .row4 .ensures) (place .both .ensures) in
     let steps = either-of by-writes (either-of (c .before .before .before .before .row5 .ensures) at-one-place (c .before .before .before .either2 .ensures)) (c .before .before .either3 .ensures) in
     both-of steps (c .before .row6 .ensures) (c .both2 .ensures)
 

@@ -86,11 +86,12 @@ add-b c = let at = c .before .before .before .before .before .before .before .be
 
 loop-again : tie.Need-loop-again Inv-loop μ-loop
 loop-again c =
-    let inv = c .before .before .before .before .before .before .before .before .before .before .before .before .before .before .before .before .before .loop .inv in
-    let low = c .before .before .before .before .before .before .before .before .before .before .before .before .before .before .before .before .loop-test .taken in
-    let from = c .before .before .before .before .before .before .before .before .before .before .before .before .before .before .from-either .ensures in
+    let filled = c .before .before .before .before .before .before .before .before .before .before .before .before in
+    let inv = filled .before .before .before .before .before .loop .inv in
+    let low = filled .before .before .before .before .loop-test .taken in
+    let from = filled .before .before .from-either .ensures in
     let led = then-held (λ v. either-rises) (inv .2 .holds) from in
-    let before = made-row-is led (λ a t. from .only a (led .all a t) .first .col) (c .before .before .before .before .before .before .before .before .before .before .before .before .put .ensures) in
+    let before = made-row-is led (λ a t. from .only a (led .all a t) .first .col) (filled .put .ensures) in
     let set = both-of (is-iff (λ a. star-step) (λ a. step-star) led) (c .before .before .before .before .before .before .row .ensures) (c .before .before .before .before .before .both .ensures) in
     let handed = c .before .before .before .before .hand-on .ensures in (
       omega (arith, low),
