@@ -7,3 +7,4 @@ pub mod Trailing
 pub mod Leading
 pub mod Along
 pub mod Steps
+pub mod Unique

@@ -8,13 +8,13 @@ use lib.Count.{trailingZeros, under}
 use lib.Pow.{shr-lt, shr-shr}
 use Rattle.rows.specs.Sets.{digit}
 
-half-lt : {x : ℕ} (k : ℕ) → x < 2 ^ suc k → x / 2 < 2 ^ k
+pub half-lt : {x : ℕ} (k : ℕ) → x < 2 ^ suc k → x / 2 < 2 ^ k
 half-lt {x} k h = shr-lt k 1 (subst (λ (z : ℕ). x < 2 ^ z) (sym (add-one k)) h)
 
-digit-low : (x : ℕ) → digit x 0 ≡ x % 2
+pub digit-low : (x : ℕ) → digit x 0 ≡ x % 2
 digit-low x = ap (λ (z : ℕ). z % 2) (div-one x)
 
-digit-high : (x i : ℕ) → digit x (suc i) ≡ digit (x / 2) i
+pub digit-high : (x i : ℕ) → digit x (suc i) ≡ digit (x / 2) i
 digit-high x i = sym (ap (λ (z : ℕ). z % 2) (shr-shr x 1 i) ∙ ap (digit x) (one-add i))
 
 -- the bits below them are 0
