@@ -10,12 +10,22 @@ ghost use mathlib.Core.Logic.{_⊎_};
 ghost use Prim.Native.Nat.{_<_, _≤_};
 ghost use lib.ListN.{length, getD};
 ghost use Rattle.laws.specs.Steps.{Plus};
-ghost use Rattle.rows.specs.Rows.{On, Cell, Room, Made};
+ghost use Rattle.rows.specs.Rows.{On, Cell, Room, MadeRow, Made};
 ghost use Rattle.rows.specs.Steps.{Then};
 ghost use Rattle.closure.specs.Classes.{InClasses};
 
 // Steps by way of k: each row of k's class that has k takes in row k.
-fn close_through(class: &[u8], members: &[u64], m: &mut [u64], w: usize, n: usize, k: usize)
+fn close_through(
+    class: &[u8],
+    members: &[u64],
+    m: &mut [u64],
+    w: usize,
+    n: usize,
+    h: usize,
+    k: usize,
+)
+    requires { ⌜ (k < n) × InClasses w n h (now class) (now members) (now m) ⌝ }
+    ensures { λ _. ⌜ Made w n (λ a b. Cell w n (now (m .entry)) a b ⊎ (Cell w n (now (m .entry)) a k × Cell w n (now (m .entry)) k b)) (now (m .entry)) (now (m .exit)) ⌝ }
 {
     let via = row(m, w, k);
     let c = class[k] as usize;
@@ -35,12 +45,14 @@ pub fn close(class: &[u8], members: &[u64], m: &mut [u64], w: usize, n: usize, h
     ensures { λ _. ⌜ Made w n (Plus (Cell w n (now (m .entry)))) (now (m .entry)) (now (m .exit)) ⌝ }
 {
     for k in 0..n {
-        close_through(class, members, m, w, n, k);
+        close_through(class, members, m, w, n, h, k);
     }
 }
 
 // Row b of out: what x relates to a number that row b of m has.
 fn gather_row(x: &[u64], m: &[u64], out: &mut [u64], w: usize, n: usize, b: usize)
+    requires { ⌜ (b < n) × Room w n n (now x) × Room w n n (now m) × Room w n n (now out) ⌝ }
+    ensures { λ _. ⌜ MadeRow w b (λ a. Then (Cell w n (now (x .entry))) (On w (now (m .entry))) a b) (now (out .entry)) (now (out .exit)) ⌝ }
 {
     let mut all = nothing();
     let mut v = next(m, w, b, 0);

@@ -1,0 +1,2 @@
+-- Laws of closures.
+pub mod Risen
