@@ -1,2 +1,3 @@
 -- Laws of closures.
 pub mod Risen
+pub mod Gathered
