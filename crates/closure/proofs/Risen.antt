@@ -23,6 +23,7 @@ pub record Risen (w n b : ℕ) (m x out over left : List ℕ) : Type 0 where
   pub closed : (a c : ℕ) → Cell w n m a c → On w out c b → On w out a b
   pub steps : (a : ℕ) → On w left a 0 → Cell w n m a b
   pub each : (a : ℕ) → Cell w n m a b → On w left a 0 ⊎ On w out a b
+  pub apart : (a : ℕ) → On w left a 0 → ¬ On w out a b
   pub led : (a : ℕ) → On w over a b → Then (On w x) (On w out) a b
   pub leads : (a : ℕ) → Then (On w x) (On w out) a b → On w over a b
 
@@ -63,6 +64,7 @@ turn-first {b = b} low rooms hout hover p q s l = record {
     closed = λ a c r o. absurd (p .only c o);
     steps = λ a o. record { row = low; on = s .only a o };
     each = λ a r. inl (s .all a (r .on));
+    apart = λ a l. p .only a;
     led = λ a o. absurd (q .only a o);
     leads = λ a t. absurd (p .only (t .mid) (t .next));
   };
@@ -74,60 +76,50 @@ turn-first {b = b} low rooms hout hover p q s l = record {
 
 -- v and row v are taken in
 module _
-  {w n b v : ℕ} {m x out over left out′ over′ left′ : List ℕ} (low : v < b) (h : Risen w n b m x out over left) (here : On w left v 0)
-  (p : MadeRow w b (λ a. (On w out a b ⊎ On w out a v) ⊎ (a ≡ v)) out out′)
-  (q : MadeRow w b (λ a. (On w over a b ⊎ On w over a v) ⊎ On w x a v) over over′)
-  (s : MadeRow w 0 (λ a. On w left a 0 × (¬ On w out′ a b)) left left′)
+    {w n b v : ℕ} {m x out over left out′ over′ left′ : List ℕ} (low : v < b) (h : Risen w n b m x out over left) (here : On w left v 0)
+    (p : MadeRow w b (λ a. (On w out a b ⊎ On w out a v) ⊎ (a ≡ v)) out out′)
+    (q : MadeRow w b (λ a. (On w over a b ⊎ On w over a v) ⊎ On w x a v) over over′)
+    (s : MadeRow w 0 (λ a. On w left a 0 × (¬ On w out′ a b)) left left′)
   where
-  step : Cell w n m v b
-  step = h .steps v here
+    step : Cell w n m v b
+    step = h .steps v here
 
-  -- what leads to v is taken in
-  taken : (a : ℕ) → Plus (Cell w n m) a v → On w out′ a b
-  taken a r = p .all a (inl (inr (h .out-before .all a v low r)))
+    -- what leads to v is taken in
+    taken : (a : ℕ) → Plus (Cell w n m) a v → On w out′ a b
+    taken a r = p .all a (inl (inr (h .out-before .all a v low r)))
 
-  led-more : (a : ℕ) → (On w over a b ⊎ On w over a v) ⊎ On w x a v → Then (On w x) (On w out′) a b
-  led-more a (inl (inl o)) = let t = h .led a o in record { mid = t .mid; first = t .first; next = p .all (t .mid) (inl (inl (t .next))) }
-  led-more a (inl (inr o)) = let t = h .over-before .only a v low o in record { mid = t .mid; first = t .first; next = taken (t .mid) (t .next) }
-  led-more a (inr o) = record { mid = v; first = o; next = p .all v (inr refl) }
+    led-more : (a : ℕ) → (On w over a b ⊎ On w over a v) ⊎ On w x a v → Then (On w x) (On w out′) a b
+    led-more a (inl (inl o)) = let t = h .led a o in record { mid = t .mid; first = t .first; next = p .all (t .mid) (inl (inl (t .next))) }
+    led-more a (inl (inr o)) = let t = h .over-before .only a v low o in record { mid = t .mid; first = t .first; next = taken (t .mid) (t .next) }
+    led-more a (inr o) = record { mid = v; first = o; next = p .all v (inr refl) }
 
-  more-led : (a : ℕ) (t : Then (On w x) (On w out′) a b) → (On w out (t .mid) b ⊎ On w out (t .mid) v) ⊎ (t .mid ≡ v)
-      → (On w over a b ⊎ On w over a v) ⊎ On w x a v
-  more-led a t (inl (inl o)) = inl (inl (h .leads a (record { mid = t .mid; first = t .first; next = o })))
-  more-led a t (inl (inr o)) =
-      inl (inr (h .over-before .all a v low (record { mid = t .mid; first = t .first; next = h .out-before .only (t .mid) v low o })))
-  more-led a t (inr e) = inr (subst (On w x a) e (t .first))
+    more-led : (a : ℕ) (t : Then (On w x) (On w out′) a b) → (On w out (t .mid) b ⊎ On w out (t .mid) v) ⊎ (t .mid ≡ v)
+        → (On w over a b ⊎ On w over a v) ⊎ On w x a v
+    more-led a t (inl (inl o)) = inl (inl (h .leads a (record { mid = t .mid; first = t .first; next = o })))
+    more-led a t (inl (inr o)) =
+        inl (inr (h .over-before .all a v low (record { mid = t .mid; first = t .first; next = h .out-before .only (t .mid) v low o })))
+    more-led a t (inr e) = inr (subst (On w x a) e (t .first))
 
-  still : (a : ℕ) → On w left a 0 ⊎ On w out a b → Dec (On w out′ a b) → On w left′ a 0 ⊎ On w out′ a b
-  still a z (yes o) = inr o
-  still a (inl l) (no o) = inl (s .all a (l, o))
-  still a (inr l) (no o) = inr (p .all a (inl (inl l)))
+    still : (a : ℕ) → On w left a 0 ⊎ On w out a b → Dec (On w out′ a b) → On w left′ a 0 ⊎ On w out′ a b
+    still a z (yes o) = inr o
+    still a (inl l) (no o) = inl (s .all a (l, o))
+    still a (inr l) (no o) = inr (p .all a (inl (inl l)))
 
-  risen-more : Risen w n b m x out′ over′ left′
-  risen-more = record {
-    out-before = holds-beside (h .out-before) p;
-    over-before = holds-beside (h .over-before) q;
-    sound = λ a o.
-        ⊎-elim (⊎-elim (h .sound a) (λ z. more (h .out-before .only a v low z) step)) (λ e. one (subst (λ (z : ℕ). Cell w n m z b) (sym e) step)) (p .only a o);
-    closed = λ a c r o.
-        ⊎-elim (⊎-elim (λ z. p .all a (inl (inl (h .closed a c r z)))) (λ z. taken a (plus-before r (h .out-before .only c v low z))))
-        (λ e. taken a (one (subst (Cell w n m a) e r))) (p .only c o);
-    steps = λ a o. h .steps a (s .only a o .0);
-    each = λ a r. still a (h .each a r) (on-dec w out′ a b);
-    led = λ a o. led-more a (q .only a o);
-    leads = λ a t. q .all a (more-led a t (p .only (t .mid) (t .next)));
-  }
-
-  -- the next that is left is lower
-  falls : {v′ : ℕ} → LastOf w left 0 v → LastOf w left′ 0 v′ → v′ < 64 * w → v′ < v
-  falls {v′} k k′ l =
-      let (was, new) = s .only v′ (k′ .on l) in
-      let le : v′ ≤ v = k .past v′ was in
-      by (decLt v′ v) le new
-    where
-      by : Dec (v′ < v) → v′ ≤ v → ¬ On w out′ v′ b → v′ < v
-      by (yes z) le new = z
-      by (no z) le new = let e : v′ ≡ v = omega arith in absurd (new (subst (λ (z : ℕ). On w out′ z b) (sym e) (p .all v (inr refl))))
+    risen-more : Risen w n b m x out′ over′ left′
+    risen-more = record {
+      out-before = holds-beside (h .out-before) p;
+      over-before = holds-beside (h .over-before) q;
+      sound = λ a o.
+          ⊎-elim (⊎-elim (h .sound a) (λ z. more (h .out-before .only a v low z) step)) (λ e. one (subst (λ (z : ℕ). Cell w n m z b) (sym e) step)) (p .only a o);
+      closed = λ a c r o.
+          ⊎-elim (⊎-elim (λ z. p .all a (inl (inl (h .closed a c r z)))) (λ z. taken a (plus-before r (h .out-before .only c v low z))))
+          (λ e. taken a (one (subst (Cell w n m a) e r))) (p .only c o);
+      steps = λ a o. h .steps a (s .only a o .0);
+      each = λ a r. still a (h .each a r) (on-dec w out′ a b);
+      apart = λ a l. s .only a l .1;
+      led = λ a o. led-more a (q .only a o);
+      leads = λ a t. q .all a (more-led a t (p .only (t .mid) (t .next)));
+    }
 
 -- how many turns are left at most: none once v is not below b
 abbrev turnsBy : {P : Type 0} → Dec P → ℕ → ℕ
@@ -145,28 +137,39 @@ turns-fall {v} {v′} {b} low f = by (decLt v b) (decLt v′ b)
     by (yes l) (no n) = omega arith
     by (yes l) (yes k) = let h : v′ < v = f k in omega arith
 
-module _
-  {w n b v v′ : ℕ} {m x out₀ over₀ left₀ out over left out′ over′ left′ : List ℕ} (less : b < n) (low : v < b)
-  (t : Turn w n b m x out₀ over₀ left₀ out over left v)
-  (p : MadeRow w b (λ a. (On w out a b ⊎ On w out a v) ⊎ (a ≡ v)) out out′)
-  (q : MadeRow w b (λ a. (On w over a b ⊎ On w over a v) ⊎ On w x a v) over over′)
-  (s : MadeRow w 0 (λ a. On w left a 0 × (¬ On w out′ a b)) left left′) (l : LastOf w left′ 0 v′)
-  where
+module _ {w n b v : ℕ} {m x out₀ over₀ left₀ out over left : List ℕ} (less : b < n) (low : v < b) (t : Turn w n b m x out₀ over₀ left₀ out over left v) where
   here : On w left v 0
   here = t .next .on (omega (arith, t .rooms .for-m .wide))
 
-  pub turn-more : Turn w n b m x out₀ over₀ left₀ out′ over′ left′ v′
-  turn-more = record {
-    rooms = rooms-kept (t .rooms) (p .rest .size) (q .rest .size) (s .rest .size);
-    risen = risen-more low (t .risen) here p q s;
-    next = l;
-    out-rest = outside-trans (t .out-rest) (p .rest);
-    over-rest = outside-trans (t .over-rest) (q .rest);
-    left-rest = outside-trans (t .left-rest) (s .rest);
-  }
+  module _ {v′ : ℕ} {out′ over′ left′ : List ℕ} (p : MadeRow w b (λ a. (On w out a b ⊎ On w out a v) ⊎ (a ≡ v)) out out′) where
+    pub turn-more :
+        MadeRow w b (λ a. (On w over a b ⊎ On w over a v) ⊎ On w x a v) over over′ → MadeRow w 0 (λ a. On w left a 0 × (¬ On w out′ a b)) left left′
+        → LastOf w left′ 0 v′ → Turn w n b m x out₀ over₀ left₀ out′ over′ left′ v′
+    turn-more q s l = record {
+      rooms = rooms-kept (t .rooms) (p .rest .size) (q .rest .size) (s .rest .size);
+      risen = risen-more low (t .risen) here p q s;
+      next = l;
+      out-rest = outside-trans (t .out-rest) (p .rest);
+      over-rest = outside-trans (t .over-rest) (q .rest);
+      left-rest = outside-trans (t .left-rest) (s .rest);
+    }
 
-  pub turn-less : turns v′ b < turns v b
-  turn-less = turns-fall low (λ k. falls low (t .risen) here p q s (t .next) l (omega (arith, t .rooms .for-m .wide)))
+    -- what is left then is lower: it was left before, and v is not
+    pub turn-less : Turn w n b m x out₀ over₀ left₀ out′ over′ left′ v′ → turns v′ b < turns v b
+    turn-less t′ = turns-fall low lower
+      where
+        lower : v′ < b → v′ < v
+        lower k = ⊎-elim (λ o. by (decLt v′ v) (t .next .past v′ o)) (λ o. absurd (off (p .all v′ (inl (inl o))))) (t .risen .each v′ (t′ .risen .steps v′ on))
+          where
+            on : On w left′ v′ 0
+            on = t′ .next .on (omega (arith, t .rooms .for-m .wide))
+
+            off : ¬ On w out′ v′ b
+            off = t′ .risen .apart v′ on
+
+            by : Dec (v′ < v) → v′ ≤ v → v′ < v
+            by (yes z) le = z
+            by (no z) le = let e : v′ ≡ v = omega arith in absurd (off (p .all v′ (inr e)))
 
 -- nothing is left
 module _ {w n b v : ℕ} {m x out₀ over₀ left₀ out over left : List ℕ} (less : b < n) (high : b ≤ v) (t : Turn w n b m x out₀ over₀ left₀ out over left v) where

@@ -67,6 +67,7 @@ pub fn rise(
     requires { ⌜ Rising w n (now m) (now x) (now out) (now over) (now left) ⌝ }
     ensures { λ _. ⌜ Made w n (Plus (Cell w n (now (m .entry)))) (now (out .entry)) (now (out .exit)) × Made w n (Then (On w (now (x .entry))) (Plus (Cell w n (now (m .entry))))) (now (over .entry)) (now (over .exit)) × Made w 1 (λ a b. ⊥) (now (left .entry)) (now (left .exit)) ⌝ }
 {
+    // empty at the end even where there are no rows
     clear(left, w, n, 1);
     for b in 0..n {
         rise_row(m, x, out, over, left, w, n, b);

@@ -44,7 +44,8 @@ has-requires c κs =
 row-requires-2 : tie.Need-row-requires-2 Inv-loop μ-loop
 row-requires-2 c κs =
     let turn = c .before .before .before .before .before in
-    room-row (made-room (entry (read turn) .pre .1 .for-m) (turn .loop .inv)) _ (c .before .before .before .before .loop-test .taken)
+    let pre = entry (read turn) .pre in
+    room-row (made-room (pre .1 .for-m) (turn .loop .inv)) _ (omega (arith, pre .0, c .before .before .before .before .loop-test .taken))
 
 put-requires : tie.Need-put-requires Inv-loop μ-loop
 put-requires c κs =

@@ -25,7 +25,7 @@ loop-holds : tie.Need-loop-holds Inv-loop μ-loop
 loop-holds c = (c .next .ensures .on, gathered-none (c .next .ensures) (c .before .nothing .ensures))
 
 row-requires : tie.Need-row-requires Inv-loop μ-loop
-row-requires c κs = room-row (entry (c .before) .pre .1) _ (c .loop-test .taken)
+row-requires c κs = let pre = entry (c .before) .pre in room-row (pre .1) _ (omega (arith, c .loop-test .taken, pre .0))
 
 next-requires-2 : tie.Need-next-requires-2 Inv-loop μ-loop
 next-requires-2 c κs =

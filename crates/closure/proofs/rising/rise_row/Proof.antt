@@ -1,7 +1,7 @@
 -- `rising::rise_row` meets its contract: of what steps to b the highest is taken in, until nothing is left.
 use native.Mathlib.Omega.{arith}
 use Rattle.rows.proofs.Sets.{without-of}
-use Rattle.rows.proofs.Rows.{room-row, made-row-room, made-row-is, made-row-iff, made-row-trans, made-none, made-more}
+use Rattle.rows.proofs.Rows.{room-row, made-row-room, made-row-is, made-row-trans, made-none, made-more}
 use Rattle.closure.proofs.Risen.{Turn, turns, turn-first, turn-more, turn-less, out-done, over-done, left-done}
 use Rattle.closure.proofs.rising.rise_row.Statement.{statement}
 use Rattle.closure.proofs.rising.rise_row.Tie as tie
@@ -26,9 +26,15 @@ first c = c .before .before .before .before .before
 abbrev begun : tie.At-loop Inv-loop μ-loop → tie.After-put3 Inv-loop μ-loop
 begun c = c .before .before .before .before .before
 
--- and from a row of it
+abbrev start : tie.At-loop Inv-loop μ-loop → tie.Start Inv-loop μ-loop
+start c = entry (first (emptied (begun c)))
+
+-- and back to it, from what is taken in and from what is left then
 abbrev turn : tie.After-take-in Inv-loop μ-loop → tie.At-loop Inv-loop μ-loop
 turn c = c .before .before .before .before
+
+abbrev turned : tie.After-put4 Inv-loop μ-loop → tie.After-take-in Inv-loop μ-loop
+turned c = c .before .before .before .before .before .before .before .before .before .before .before
 
 put-requires : tie.Need-put-requires Inv-loop μ-loop
 put-requires c κs = let pre = c .before .before .before .before .before .before .before .pre in room-row (pre .1 .for-out) _ (omega (arith, pre .0))
@@ -62,7 +68,7 @@ take-in-requires : tie.Need-take-in-requires Inv-loop μ-loop
 take-in-requires c κs =
     let at = c .before .before .before in
     let rooms = at .loop .inv .rooms in
-    (c .before .before .loop-test .taken, entry (first (emptied (begun at))) .pre .0, rooms .for-x, rooms .for-out, rooms .for-over)
+    (c .before .before .loop-test .taken, start at .pre .0, rooms .for-x, rooms .for-out, rooms .for-over)
 
 row-requires-2 : tie.Need-row-requires-2 Inv-loop μ-loop
 row-requires-2 c κs = room-row (turn (c .before .before .before .before .before) .loop .inv .rooms .for-left) 0 (omega arith)
@@ -71,41 +77,31 @@ row-requires-3 : tie.Need-row-requires-3 Inv-loop μ-loop
 row-requires-3 c κs =
     let taken = c .before .before .before .before .before .before .before in
     let at = turn taken in
-    room-row (made-row-room (at .loop .inv .rooms .for-out) (taken .take-in .ensures .0)) _ (entry (first (emptied (begun at))) .pre .0)
+    room-row (made-row-room (at .loop .inv .rooms .for-out) (taken .take-in .ensures .0)) _ (start at .pre .0)
 
 put-requires-4 : tie.Need-put-requires-4 Inv-loop μ-loop
 put-requires-4 c κs = room-row (turn (c .before .before .before .before .before .before .before .before .before .before) .loop .inv .rooms .for-left) 0 (omega arith)
-
--- from what is left after a turn to what was taken in
-abbrev turned : tie.After-put4 Inv-loop μ-loop → tie.After-take-in Inv-loop μ-loop
-turned c = c .before .before .before .before .before .before .before .before .before .before .before
 
 last-requires-2 : tie.Need-last-requires-2 Inv-loop μ-loop
 last-requires-2 c κs =
     let rest = c .before .before .before in
     room-row (made-row-room (turn (turned rest) .loop .inv .rooms .for-left) (rest .put4 .ensures)) 0 (omega arith)
 
-loop-less : tie.Need-loop-less Inv-loop μ-loop
-loop-less c =
-    let rest = c .before .before .before .before in
-    let taken = turned rest in
-    let at = turn taken in
-    turn-less (entry (first (emptied (begun at))) .pre .0) (taken .before .before .before .loop-test .taken) (at .loop .inv) (taken .take-in .ensures .0)
-    (taken .take-in .ensures .1)
-    (made-row-is (without-of (rest .before .before .before .before .before .row2 .ensures) (rest .before .before .before .row3 .ensures) (rest .before .before .without .ensures))
-    (λ a z. z .0 .col) (rest .put4 .ensures))
-    (c .last2 .ensures)
-
 loop-again : tie.Need-loop-again Inv-loop μ-loop
 loop-again c =
     let rest = c .before .before .before .before in
     let taken = turned rest in
     let at = turn taken in
-    turn-more (entry (first (emptied (begun at))) .pre .0) (taken .before .before .before .loop-test .taken) (at .loop .inv) (taken .take-in .ensures .0)
-    (taken .take-in .ensures .1)
-    (made-row-is (without-of (rest .before .before .before .before .before .row2 .ensures) (rest .before .before .before .row3 .ensures) (rest .before .before .without .ensures))
-    (λ a z. z .0 .col) (rest .put4 .ensures))
+    let (out, over) = taken .take-in .ensures in
+    let still = without-of (rest .before .before .before .before .before .row2 .ensures) (rest .before .before .before .row3 .ensures) (rest .before .before .without .ensures) in
+    turn-more (start at .pre .0) (taken .before .before .before .loop-test .taken) (at .loop .inv) out over (made-row-is still (λ a z. z .0 .col) (rest .put4 .ensures))
     (c .last2 .ensures)
+
+loop-less : tie.Need-loop-less Inv-loop μ-loop
+loop-less c =
+    let taken = turned (c .before .before .before .before) in
+    let at = turn taken in
+    turn-less (start at .pre .0) (taken .before .before .before .loop-test .taken) (at .loop .inv) (taken .take-in .ensures .0) (loop-again c)
 
 returns : tie.Need-returns Inv-loop μ-loop
 returns c =

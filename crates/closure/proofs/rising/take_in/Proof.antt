@@ -57,10 +57,10 @@ returns c =
     (λ a. ⊎-elim (λ o. o .col) (λ o. o .col)) (steps .put2 .ensures) in (
       made-row-trans joined (made-row-iff (λ a. ⊎-map (joined .only a) (λ e. e)) (λ a. ⊎-map (joined .all a) (λ e. e)) (c .before .before .add .ensures)),
       made-row-is
-      (either-of
-      (either-of (sets .before .before .before .before .before .row .ensures) (sets .before .before .before .row2 .ensures) (sets .before .before .either .ensures))
-      (sets .before .row3 .ensures) (sets .either2 .ensures))
-      (λ a. ⊎-elim (⊎-elim (λ o. o .col) (λ o. o .col)) (λ o. o .col)) (all .put .ensures),
+          (either-of
+          (either-of (sets .before .before .before .before .before .row .ensures) (sets .before .before .before .row2 .ensures) (sets .before .before .either .ensures))
+          (sets .before .row3 .ensures) (sets .either2 .ensures))
+          (λ a. ⊎-elim (⊎-elim (λ o. o .col) (λ o. o .col)) (λ o. o .col)) (all .put .ensures),
     )
 
 pub take-in-spec : {M : Type 1} → statement M
