@@ -1,7 +1,7 @@
 -- The closure in place where steps stay within classes: of the rows, those of k's class take in row k.
 use mathlib.Core.Path.{_≡_, sym, subst, _∙_}
 use mathlib.Core.List.{List}
-use mathlib.Core.Logic.{_⊎_, inl, inr, ⊎-elim, ⊎-map}
+use mathlib.Core.Logic.{_⊎_, inl, ⊎-elim, ⊎-map}
 use Prim.Native.Nat.{ℕ, _+_, _≤_, _<_}
 use native.Mathlib.Omega.{arith}
 use native.Mathlib.Numerals.{add-one}
@@ -9,7 +9,7 @@ use native.Mathlib.Decide.{decLt}
 use lib.ListN.{getD}
 use Rattle.laws.specs.Steps.{Rel, Plus}
 use Rattle.laws.proofs.Closure.{Stage, Stage.direct, Through, stage-through, through-stage, stage-zero, stage-plus, plus-stage}
-use Rattle.rows.specs.Rows.{On, Holds, Cell, MadeRow, Made}
+use Rattle.rows.specs.Rows.{On, Cell, MadeRow, Made}
 use Rattle.rows.specs.Found.{NextOf}
 use Rattle.rows.proofs.Rows.{holds-itself, made-held, made-iff, made-again, made-row-iff, made-room, made-trans}
 use Rattle.closure.specs.Classes.{InClasses}
@@ -46,13 +46,16 @@ module _ {w n h k : ℕ} {class members m₀ : List ℕ} (given : InClasses w n 
       by (yes h) = h
       by (no h) = absurd (next .before b (omega arith) l (given .within k b s))
 
-  pub passed-next : {lo i : ℕ} {m : List ℕ} → NextOf w members (getD class k 0) lo i → Made w n (Passed k lo (Cell w n m₀)) m₀ m → Made w n (Passed k i (Cell w n m₀)) m₀ m
+  pub passed-next :
+      {lo i : ℕ} {m : List ℕ} → NextOf w members (getD class k 0) lo i → Made w n (Passed k lo (Cell w n m₀)) m₀ m
+      → Made w n (Passed k i (Cell w n m₀)) m₀ m
   passed-next next = passed-same (λ b l s h. omega (arith, next .low)) (λ b l s h. next-member next b s h)
 
   pub passed-first : {i : ℕ} → NextOf w members (getD class k 0) 0 i → Made w n (Passed k i (Cell w n m₀)) m₀ m₀
   passed-first next =
       passed-next next
-      (made-iff (λ a b l o. inl (record { row = l; on = o })) (λ a b l. ⊎-elim (λ s. s .on) (λ v. absurd (omega (arith, v .low)))) (made-held (holds-itself w n m₀)))
+      (made-iff (λ a b l o. inl (record { row = l; on = o })) (λ a b l. ⊎-elim (λ s. s .on) (λ v. absurd (omega (arith, v .low))))
+      (made-held (holds-itself w n m₀)))
 
   module _ {b : ℕ} {m : List ℕ} (low : b < n) (p : Made w n (Passed k b (Cell w n m₀)) m₀ m) where
     -- row b was not changed yet
@@ -62,8 +65,7 @@ module _ {w n h k : ℕ} {class members m₀ : List ℕ} (given : InClasses w n 
     -- it has k, and takes in row k
     pub passed-joined :
         {m′ : List ℕ} → k < n → On w m k b → MadeRow w b (λ a. On w m a b ⊎ On w m₀ a k) m m′ → Made w n (Passed k (b + 1) (Cell w n m₀)) m₀ m′
-    passed-joined lk on =
-        λ r.
+    passed-joined lk on r =
         made-again b low (λ a c ne. passed-to (λ s l. omega arith)) (λ a c ne. passed-to (λ s l. omega (arith, ne))) p
         (made-row-iff
         (λ a. ⊎-map (todo a) (λ o. record { low = omega arith; to = record { row = lk; on = o }; from = todo k on }))
@@ -117,5 +119,7 @@ stage-more {w} {n} {k} {R} {m = m} lk p q = rw add-one (made-trans p
     cell : {a b : ℕ} → b < n → Stage k R a b → Cell w n m a b
     cell {a} {b} l s = record { row = l; on = p .holds .all a b l s }
 
-pub stage-all : {w n h : ℕ} {class members m₀ m : List ℕ} → InClasses w n h class members m₀ → Made w n (Stage n (Cell w n m₀)) m₀ m → Made w n (Plus (Cell w n m₀)) m₀ m
+pub stage-all :
+    {w n h : ℕ} {class members m₀ m : List ℕ} → InClasses w n h class members m₀ → Made w n (Stage n (Cell w n m₀)) m₀ m
+    → Made w n (Plus (Cell w n m₀)) m₀ m
 stage-all g = made-iff (λ a b l. stage-plus) (λ a b l. plus-stage (record { left = λ {a} {b} c. g .low a b c; right = λ c. c .row }))

@@ -1,7 +1,7 @@
 -- A row of the closure of a relation that rises: what it has so far, while the numbers that step to it are taken in.
 use mathlib.Core.Path.{_≡_, refl, sym, subst}
 use mathlib.Core.List.{List}
-use mathlib.Core.Logic.{_⊎_, inl, inr, ⊎-elim, ⊎-map}
+use mathlib.Core.Logic.{_⊎_, inl, inr, ⊎-elim}
 use Prim.Native.Nat.{ℕ, zero, suc, _+_, _*_, _≤_, _<_}
 use native.Mathlib.Omega.{arith}
 use native.Mathlib.Decide.{decLt}
@@ -172,7 +172,7 @@ module _ {w n b v : ℕ} {m x out₀ over₀ left₀ out over left : List ℕ} (
             by (no z) le = let e : v′ ≡ v = omega arith in absurd (off (p .all v′ (inr e)))
 
 -- nothing is left
-module _ {w n b v : ℕ} {m x out₀ over₀ left₀ out over left : List ℕ} (less : b < n) (high : b ≤ v) (t : Turn w n b m x out₀ over₀ left₀ out over left v) where
+module _ {w n b v : ℕ} {m x out₀ over₀ left₀ out over left : List ℕ} (high : b ≤ v) (t : Turn w n b m x out₀ over₀ left₀ out over left v) where
   none-left : (a : ℕ) → ¬ On w left a 0
   none-left a o = by (decLt v (64 * w))
     where

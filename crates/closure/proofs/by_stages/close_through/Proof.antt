@@ -1,6 +1,6 @@
 -- `by_stages::close_through` meets its contract: the rows below b that have k have taken in row k.
 use mathlib.Core.Logic.{_⊎_, ⊎-elim}
-use Prim.Native.Nat.{_-_, _≤_}
+use Prim.Native.Nat.{_-_}
 use native.Mathlib.Omega.{arith}
 use Rattle.laws.proofs.Says.{said, denied}
 use Rattle.rows.specs.Rows.{Cell, Made}
@@ -39,7 +39,10 @@ has-requires : tie.Need-has-requires Inv-loop μ-loop
 has-requires c κs =
     let turn = c .before .before in
     let pre = entry (read turn) .pre in
-    record { col = omega (arith, pre .0, pre .1 .for-m .wide); room = room-row (made-room (pre .1 .for-m) (turn .loop .inv)) (turn .loop .b) (c .before .loop-test .taken) .room }
+    record {
+      col = omega (arith, pre .0, pre .1 .for-m .wide);
+      room = room-row (made-room (pre .1 .for-m) (turn .loop .inv)) (turn .loop .b) (c .before .loop-test .taken) .room;
+    }
 
 row-requires-2 : tie.Need-row-requires-2 Inv-loop μ-loop
 row-requires-2 c κs =

@@ -37,7 +37,9 @@ loop-again c =
     let turn = c .before .before .before .loop in
     ⊎-elim
     (λ w. (omega arith, rw (w .5) (made-more (turn .inv .1) (made-row-iff (λ a t. (w .0 .taken, t)) (λ a z. z .1) (w .2 .ensures)))))
-    (λ w. (omega arith, rw (w .6) (made-more (turn .inv .1) (made-row-iff (λ a z. absurd (w .2 .ensures .only a (z .0))) (λ a z. absurd (w .0 .left (z .0))) (w .3 .ensures)))))
+    (λ w.
+    let empty = made-row-iff (λ a z. absurd (w .2 .ensures .only a (z .0))) (λ a z. absurd (w .0 .left (z .0))) (w .3 .ensures) in
+    (omega arith, rw (w .6) (made-more (turn .inv .1) empty)))
     (c .if1 .came)
 
 returns : tie.Need-returns Inv-loop μ-loop

@@ -13,7 +13,8 @@ use Rattle.closure.proofs.rising.rise.Tie as tie
 
 abbrev Inv-loop : tie.InvT-loop
 Inv-loop m x out₀ over₀ left₀ w n b₀ out over left b =
-    (b ≤ n) × Rising w n m x out over left × Made w b (Plus (Cell w n m)) out₀ out × Made w b (Then (On w x) (Plus (Cell w n m))) over₀ over × Made w 1 (λ _ _. ⊥) left₀ left
+    (b ≤ n) × Rising w n m x out over left × Made w b (Plus (Cell w n m)) out₀ out × Made w b (Then (On w x) (Plus (Cell w n m))) over₀ over
+    × Made w 1 (λ _ _. ⊥) left₀ left
 
 abbrev μ-loop : tie.MeasureT-loop
 μ-loop m x out₀ over₀ left₀ w n b₀ out over left b = n - b
@@ -24,7 +25,8 @@ clear-requires c κs = c .before .before .before .before .before .before .pre .f
 loop-holds : tie.Need-loop-holds Inv-loop μ-loop
 loop-holds c =
     let empty = c .before .before .clear .ensures in
-    (omega arith, rooms-kept (c .before .before .before .before .before .before .before .before .before .pre) refl refl (empty .rest .size), made-none, made-none, made-held (empty .holds))
+    let pre = c .before .before .before .before .before .before .before .before .before .pre in
+    (omega arith, rooms-kept pre refl refl (empty .rest .size), made-none, made-none, made-held (empty .holds))
 
 rise-row-requires : tie.Need-rise-row-requires Inv-loop μ-loop
 rise-row-requires c κs =
@@ -41,7 +43,8 @@ loop-again : tie.Need-loop-again Inv-loop μ-loop
 loop-again c =
     let turn = c .before .before .before .before .before .before .before .before .before .before .before .loop in
     let (out, over, left) = c .before .before .before .before .before .before .rise-row .ensures in
-    (omega arith, rooms-kept (turn .inv .1) (out .rest .size) (over .rest .size) (left .rest .size), made-more (turn .inv .2) out, made-more (turn .inv .3) over, made-trans (turn .inv .4) left)
+    let rooms = rooms-kept (turn .inv .1) (out .rest .size) (over .rest .size) (left .rest .size) in
+    (omega arith, rooms, made-more (turn .inv .2) out, made-more (turn .inv .3) over, made-trans (turn .inv .4) left)
 
 returns : tie.Need-returns Inv-loop μ-loop
 returns c =

@@ -93,9 +93,10 @@ loop-again c =
     let taken = turned rest in
     let at = turn taken in
     let (out, over) = taken .take-in .ensures in
-    let still = without-of (rest .before .before .before .before .before .row2 .ensures) (rest .before .before .before .row3 .ensures) (rest .before .before .without .ensures) in
-    turn-more (start at .pre .0) (taken .before .before .before .loop-test .taken) (at .loop .inv) out over (made-row-is still (λ a z. z .0 .col) (rest .put4 .ensures))
-    (c .last2 .ensures)
+    let was = rest .before .before .before .before .before .row2 .ensures in
+    let still = without-of was (rest .before .before .before .row3 .ensures) (rest .before .before .without .ensures) in
+    turn-more (start at .pre .0) (taken .before .before .before .loop-test .taken) (at .loop .inv) out over
+    (made-row-is still (λ a z. z .0 .col) (rest .put4 .ensures)) (c .last2 .ensures)
 
 loop-less : tie.Need-loop-less Inv-loop μ-loop
 loop-less c =
@@ -109,11 +110,10 @@ returns c =
     let from = begun at in
     let over = emptied from in
     let out = first over in
-    let less = entry out .pre .0 in
     let high = c .loop-test .left in (
-      made-row-trans (out .put .ensures) (out-done less high (at .loop .inv)),
-      made-row-trans (over .put2 .ensures) (over-done less high (at .loop .inv)),
-      made-more made-none (made-row-trans (from .put3 .ensures) (left-done less high (at .loop .inv))),
+      made-row-trans (out .put .ensures) (out-done high (at .loop .inv)),
+      made-row-trans (over .put2 .ensures) (over-done high (at .loop .inv)),
+      made-more made-none (made-row-trans (from .put3 .ensures) (left-done high (at .loop .inv))),
     )
 
 pub rise-row-spec : {M : Type 1} → statement M
