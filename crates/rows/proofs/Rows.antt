@@ -216,6 +216,13 @@ made-again {w} {h} {R} {S} {m₀} {m} {m′} l low f g k r =
     only a b i (yes e) o = subst (S a) (sym e) (r .only a (subst (On w m′ a) e o))
     only a b i (no n) o = f a b n (k .holds .only a b i (on-was l (r .rest) n o))
 
+-- the rows before one that is made
+pub holds-beside : {w b : ℕ} {R : ℕ → ℕ → Type 0} {P : ℕ → Type 0} {m m′ : List ℕ} → Holds w b R m → MadeRow w b P m m′ → Holds w b R m′
+holds-beside {b = b} h r = record {
+  all = λ a c l x. on-kept b (r .rest) (λ e. omega (arith, e, l)) (h .all a c l x);
+  only = λ a c l o. h .only a c l (on-was b (r .rest) (λ e. omega (arith, e, l)) o);
+}
+
 pub holds-itself : (w n : ℕ) (m : List ℕ) → Holds w n (On w m) m
 holds-itself w n m = record { all = λ a b l o. o; only = λ a b l o. o }
 

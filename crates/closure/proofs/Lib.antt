@@ -1,0 +1,4 @@
+-- Laws of closures.
+pub mod Risen
+pub mod Gathered
+pub mod Classed
