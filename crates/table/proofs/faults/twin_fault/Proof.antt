@@ -1,4 +1,4 @@
--- `twins::twin_below` meets its contract: what was found is what a search below m finds.
+-- `faults::twin_fault` meets its contract: what was found is what a search below m finds.
 use mathlib.Core.Path.{_≡_}
 use Prim.Native.Nat.{_-_, _≤_}
 use native.Mathlib.Omega.{arith}
@@ -7,8 +7,8 @@ use Rattle.table.specs.Events.{eventsOf}
 use Rattle.table.proofs.Search.{any-none, any-more}
 use Rattle.table.proofs.Standing.{stands-one}
 use borrow.Author.Needs.{needs}
-use Rattle.table.proofs.twins.twin_below.Statement.{statement}
-use Rattle.table.proofs.twins.twin_below.Tie as tie
+use Rattle.table.proofs.faults.twin_fault.Statement.{statement}
+use Rattle.table.proofs.faults.twin_fault.Tie as tie
 
 abbrev Inv-loop : tie.InvT-loop
 Inv-loop table n new found₀ m₀ found m = (found ≡ twinFault (eventsOf table .at) m new) × (m ≤ n)
@@ -27,5 +27,5 @@ returns c =
     let e : l .m ≡ c .before .before .before .args .n = omega arith in
     rw (← e) (l .inv .0)
 
-pub twin-below-spec : {M : Type 1} → statement M
-twin-below-spec = tie.close (tie.spec Inv-loop μ-loop (λ c. (any-none _, omega arith)) (λ c κs. stands-one (c .before .before .before .pre) _ (omega arith)) (search needs) (search needs) loop-again returns)
+pub twin-fault-spec : {M : Type 1} → statement M
+twin-fault-spec = tie.close (tie.spec Inv-loop μ-loop (λ c. (any-none _, omega arith)) (λ c κs. stands-one (c .before .before .before .pre) _ (omega arith)) (search needs) (search needs) loop-again returns)
