@@ -86,6 +86,11 @@ pub passed-all : {w n k i : ℕ} {S : Rel} {m₀ m : List ℕ} → n ≤ i → M
 passed-all high =
     made-iff (λ a b l. ⊎-map (λ s. s) (λ v. (v .to, v .from))) (λ a b l. ⊎-map (λ s. s) (λ z. record { low = omega arith; to = z .0; from = z .1 }))
 
+-- nothing leads to k
+pub never-through : {w n k : ℕ} {m : List ℕ} → ((a : ℕ) → ¬ On w m a k) → Made w n (Through k (Cell w n m)) m m
+never-through {w} {n} {k} {m} none =
+    made-iff (λ a b l o. inl (record { row = l; on = o })) (λ a b l. ⊎-elim (λ c. c .on) (λ z. absurd (none a (z .0 .on)))) (made-held (holds-itself w n m))
+
 -- steps by way of k stay within classes too
 pub classes-kept :
     {w n h k : ℕ} {class members m m′ : List ℕ} → InClasses w n h class members m → Made w n (Through k (Cell w n m)) m m′

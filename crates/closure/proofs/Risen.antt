@@ -7,15 +7,15 @@ use native.Mathlib.Omega.{arith}
 use native.Mathlib.Decide.{decLt}
 use lib.ListN.{length}
 use Rattle.laws.specs.Steps.{Plus, Plus.one, Plus.more}
-use Rattle.rows.specs.Rows.{On, Holds, Cell, Room, Outside, MadeRow}
+use Rattle.rows.specs.Rows.{On, Holds, Cell, Outside, MadeRow}
 use Rattle.rows.specs.Steps.{Then}
 use Rattle.rows.specs.Found.{LastOf}
 use Rattle.rows.proofs.Parts.{outside-none, outside-trans}
-use Rattle.rows.proofs.Rows.{on-dec, holds-beside}
+use Rattle.rows.proofs.Rows.{on-dec, holds-beside, room-kept}
 use Rattle.rows.proofs.Steps.{plus-before}
 use Rattle.closure.specs.Classes.{Rising}
 
--- row b of out is closed, and a number that steps to b is in it or in left
+-- the rows before b are done; row b of out is closed, and a number that steps to b is either in it or in left; row b of over follows it
 pub record Risen (w n b : ℕ) (m x out over left : List ℕ) : Type 0 where
   pub out-before : Holds w b (Plus (Cell w n m)) out
   pub over-before : Holds w b (Then (On w x) (Plus (Cell w n m))) over
@@ -27,7 +27,7 @@ pub record Risen (w n b : ℕ) (m x out over left : List ℕ) : Type 0 where
   pub led : (a : ℕ) → On w over a b → Then (On w x) (On w out) a b
   pub leads : (a : ℕ) → Then (On w x) (On w out) a b → On w over a b
 
--- so it is at the loop, of which v is the next to be taken in
+-- so it is at each turn of the loop; v is the next to be taken in
 pub record Turn (w n b : ℕ) (m x out₀ over₀ left₀ out over left : List ℕ) (v : ℕ) : Type 0 where
   pub rooms : Rising w n m x out over left
   pub risen : Risen w n b m x out over left
@@ -36,18 +36,15 @@ pub record Turn (w n b : ℕ) (m x out₀ over₀ left₀ out over left : List �
   pub over-rest : Outside (b * w) (b * w + w) over₀ over
   pub left-rest : Outside (0 * w) (0 * w + w) left₀ left
 
-room-kept : {w n h : ℕ} {m m′ : List ℕ} → Room w n h m → length m′ ≡ length m → Room w n h m′
-room-kept r e = record { width = r .width; wide = r .wide; room = omega (arith, r .room, e) }
-
 pub rooms-kept :
     {w n : ℕ} {m x out over left out′ over′ left′ : List ℕ} → Rising w n m x out over left → length out′ ≡ length out → length over′ ≡ length over
     → length left′ ≡ length left → Rising w n m x out′ over′ left′
 rooms-kept r e f g = record {
   for-m = r .for-m;
   for-x = r .for-x;
-  for-out = room-kept (r .for-out) e;
-  for-over = room-kept (r .for-over) f;
-  for-left = room-kept (r .for-left) g;
+  for-out = room-kept e (r .for-out);
+  for-over = room-kept f (r .for-over);
+  for-left = room-kept g (r .for-left);
   rises = r .rises;
 }
 
@@ -137,6 +134,7 @@ turns-fall {v} {v′} {b} low f = by (decLt v b) (decLt v′ b)
     by (yes l) (no n) = omega arith
     by (yes l) (yes k) = let h : v′ < v = f k in omega arith
 
+-- one turn
 module _ {w n b v : ℕ} {m x out₀ over₀ left₀ out over left : List ℕ} (less : b < n) (low : v < b) (t : Turn w n b m x out₀ over₀ left₀ out over left v) where
   here : On w left v 0
   here = t .next .on (omega (arith, t .rooms .for-m .wide))
@@ -183,6 +181,7 @@ module _ {w n b v : ℕ} {m x out₀ over₀ left₀ out over left : List ℕ} (
   of-step : (a : ℕ) → Cell w n m a b → On w out a b
   of-step a r = ⊎-elim (λ o. absurd (none-left a o)) (λ o. o) (t .risen .each a r)
 
+  -- what leads to a number of the row is in the row
   of-plus : {a c : ℕ} → Plus (Cell w n m) a c → On w out c b → On w out a b
   of-plus {a} {c} (one r) o = t .risen .closed a c r o
   of-plus {c = c} (more {m = k} q r) o = of-plus q (t .risen .closed k c r o)

@@ -4,6 +4,7 @@ use rows::row::put;
 use rows::row::row;
 use rows::search::next;
 use rows::set::either;
+use rows::set::is_empty;
 use rows::set::nothing;
 ghost use mathlib.Core.Path.{_≡_};
 ghost use mathlib.Core.Logic.{_⊎_};
@@ -39,13 +40,24 @@ fn close_through(
     }
 }
 
+// The same; where nothing leads to k there is nothing to do.
+fn close_by(class: &[u8], members: &[u64], m: &mut [u64], w: usize, n: usize, h: usize, k: usize)
+    requires { ⌜ (k < n) × InClasses w n h (now class) (now members) (now m) ⌝ }
+    ensures { λ _. ⌜ Made w n (λ a b. Cell w n (now (m .entry)) a b ⊎ (Cell w n (now (m .entry)) a k × Cell w n (now (m .entry)) k b)) (now (m .entry)) (now (m .exit)) ⌝ }
+{
+    if is_empty(row(m, w, k)) {
+        return;
+    }
+    close_through(class, members, m, w, n, h, k);
+}
+
 // One or more steps of what m held. Row c of `members` has the numbers of class c, and a step leads to a number of the same class.
 pub fn close(class: &[u8], members: &[u64], m: &mut [u64], w: usize, n: usize, h: usize)
     requires { ⌜ InClasses w n h (now class) (now members) (now m) ⌝ }
     ensures { λ _. ⌜ Made w n (Plus (Cell w n (now (m .entry)))) (now (m .entry)) (now (m .exit)) ⌝ }
 {
     for k in 0..n {
-        close_through(class, members, m, w, n, h, k);
+        close_by(class, members, m, w, n, h, k);
     }
 }
 

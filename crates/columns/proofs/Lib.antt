@@ -7,3 +7,4 @@ pub mod Apart
 pub mod Races
 pub mod Writes
 pub mod Sequential
+pub mod Shown

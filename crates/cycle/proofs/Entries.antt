@@ -2,18 +2,10 @@
 use mathlib.Core.Path.{_≡_, ap, _∙_}
 use mathlib.Core.List.{List}
 use mathlib.Core.Logic.{_⊎_, inl, inr}
-use Prim.Native.Nat.{ℕ, _+_, _*_, _<_}
-use native.Mathlib.Omega.{arith}
+use Prim.Native.Nat.{ℕ, _<_}
 use native.Mathlib.Decide.{ℕ-discrete}
 use lib.ListN.{length, getD, set}
 use lib.Seq.{getD-set-same, getD-set-other}
-use Rattle.laws.proofs.Closure.{tri}
-use Rattle.matrix.proofs.Parts.{row-before}
-
--- two entries at one place are one
-pub same-place : (n a b i j : ℕ) → a < n → i < n → b * n + a ≡ j * n + i → (a ≡ i) × (b ≡ j)
-same-place n a b i j ha hi e =
-    tri b j (λ l. absurd (omega (arith, row-before n l))) (λ q. (omega (arith, ap (λ (x : ℕ). x * n) q), q)) (λ g. absurd (omega (arith, row-before n g)))
 
 -- the entry stored to holds what was stored, every other what it held
 pub after : (l : List ℕ) (p q v : ℕ) → p < length l → ((q ≡ p) × (getD (set l p v) q 0 ≡ v)) ⊎ (¬ (q ≡ p) × (getD (set l p v) q 0 ≡ getD l q 0))

@@ -1,7 +1,6 @@
--- From tables of distances and ranks to the least cycle.
+-- From rows of words to the least cycle.
 pub mod Entries
-pub mod Relaxing
-pub mod Walking
+pub mod Trimming
+pub mod Layering
 pub mod Starts
 pub mod Writing
-pub mod Ranking

@@ -1,56 +1,160 @@
--- The first number with the fewest steps back to itself.
-use mathlib.Core.Path.{_≡_, refl}
-use mathlib.Core.List.{List}
-use mathlib.Core.Logic.{_⊎_, inl, inr, ⊎-elim}
-use Prim.Native.Nat.{ℕ, _+_, _<_, _≤_}
+-- The least start, the way from there, and the least cycle that they give.
+use mathlib.Core.Path.{_≡_, refl, subst}
+use mathlib.Core.List.{List, [], _∷_}
+use mathlib.Core.Option.{none, some}
+use Prim.Native.Nat.{ℕ, _+_, _-_, _<_, _≤_}
 use native.Mathlib.Omega.{arith}
-use borrow.Author.Count.{below-more}
-use Rattle.cycle.specs.Distances.{stepsAt, StartOf}
+use native.Mathlib.Decide.{decLt}
+use lib.ListN.{length}
+use Rattle.laws.specs.Steps.{Rel, Walk, IsCycle}
+use Rattle.laws.specs.Least.{Least, LeastCycle}
+use Rattle.laws.specs.Tails.{LeastTail}
+use Rattle.laws.proofs.Steps.{Within}
+use Rattle.laws.proofs.Walks.{least-closed-walk, cycle-fits}
+use Rattle.rows.specs.Rows.{On}
+use Rattle.rows.specs.Found.{NextOf}
+use Rattle.rows.proofs.Along.{along-none, along-more}
+use Rattle.cycle.specs.Distances.{Reaches}
+use Rattle.cycle.specs.Rounds.{Step, Fewest, Upto, Layers, Back, Chosen, StartOf, FirstStep}
+use Rattle.cycle.proofs.Layering.{reach-alive, last-reach, fewest-on, fewest-next}
 
--- at is the first of those below s with the fewest
-pub record Chosen (n : ℕ) (d : List ℕ) (best at s : ℕ) : Type 0 where
-  pub low : at < s
-  pub is : best ≡ stepsAt d n at at
-  pub some : best < 255
-  pub first : (a : ℕ) → a < at → best < stepsAt d n a a
+reach-of : {R : Rel} {a b : ℕ} (xs : List ℕ) → Walk R a xs b → Reaches R a b (length xs + 1)
+reach-of xs v = record { by = xs; walk = v; long = refl }
 
--- the fewest so far, and the first that has it
-pub record Sofar (n : ℕ) (d : List ℕ) (best at s : ℕ) : Type 0 where
-  pub small : best ≤ 255
-  pub low : (a : ℕ) → a < s → best ≤ stepsAt d n a a
-  pub place : ((at ≡ n) × (best ≡ 255)) ⊎ Chosen n d best at s
+-- ---- the start
 
-module _ {n : ℕ} {d : List ℕ} where
-  pub start-none : Sofar n d 255 n 0
-  start-none = record { small = omega arith; low = λ a h. absurd (omega arith); place = inl (refl, refl) }
+-- at is the first of all numbers before s from which the fewest steps lead back, and they are best
+pub record Sofar (w n : ℕ) (m alive : List ℕ) (best at s : ℕ) : Type 0 where
+  pub small : best ≤ n + 1
+  pub few : (a : ℕ) → a < s → On w alive a 0 → (k : ℕ) → Reaches (Step w n m alive) a a k → best ≤ k
+  pub unset : n ≤ at → best ≡ n + 1
+  pub low : at < n → best ≤ n
+  pub reach : at < n → Reaches (Step w n m alive) at at best
+  pub first : (a k : ℕ) → a < at → at < n → Reaches (Step w n m alive) a a k → best < k
 
-  pub start-take : {best at s : ℕ} → stepsAt d n s s < best → Sofar n d best at s → Sofar n d (stepsAt d n s s) s (s + 1)
-  start-take {best} {at} {s} l f =
-      record {
-        small = omega (arith, f .small);
-        low = below-more (λ (a : ℕ). stepsAt d n s s ≤ stepsAt d n a a) s (λ a h. omega (arith, f .low a h)) (omega arith);
-        place = inr (record { low = omega arith; is = refl; some = omega (arith, f .small); first = λ a h. omega (arith, f .low a h) });
-      }
+module _ {w n : ℕ} {m alive : List ℕ} where
+  pub start-none : {s : ℕ} → NextOf w alive 0 0 s → Sofar w n m alive (n + 1) n s
+  start-none f = record {
+    small = omega arith;
+    few = along-none (λ a. (k : ℕ) → Reaches (Step w n m alive) a a k → n + 1 ≤ k) f;
+    unset = λ h. refl;
+    low = λ h. absurd (omega arith);
+    reach = λ h. absurd (omega arith);
+    first = λ a k l h. absurd (omega arith);
+  }
 
-  pub start-keep : {best at s : ℕ} → best ≤ stepsAt d n s s → Sofar n d best at s → Sofar n d best at (s + 1)
-  start-keep {best} {at} {s} l f =
-      record {
-        small = f .small;
-        low = below-more (λ (a : ℕ). best ≤ stepsAt d n a a) s (f .low) l;
-        place = ⊎-elim inl (λ p. inr (record { low = omega (arith, p .low); is = p .is; some = p .some; first = p .first })) (f .place);
-      }
+  module _ {best at s r t : ℕ} {layers : List ℕ} (b : Back (Step w n m alive) w s best r layers) (f : NextOf w alive 0 (s + 1) t) where
+    pub start-take : r < best → s < n → Sofar w n m alive best at s → Sofar w n m alive r s t
+    start-take l h p = record {
+      small = omega (arith, p .small);
+      few = along-more (λ a. (k : ℕ) → Reaches (Step w n m alive) a a k → r ≤ k) (λ a g o k z. omega (arith, p .few a g o k z)) (λ o. b .few) f;
+      unset = λ g. absurd (omega arith);
+      low = λ g. omega (arith, p .small);
+      reach = λ g. b .reach l;
+      first = λ a k g _ z. omega (arith, p .few a g (reach-alive z) k z);
+    }
 
-  pub start-end : {best at : ℕ} → Sofar n d best at n → StartOf n d at
-  start-end {best} {at} f = go (f .place)
+    pub start-keep : best ≤ r → Sofar w n m alive best at s → Sofar w n m alive best at t
+    start-keep l p = record {
+      small = p .small;
+      few = along-more (λ a. (k : ℕ) → Reaches (Step w n m alive) a a k → best ≤ k) (p .few) (λ o k z. omega (arith, b .few k z)) f;
+      unset = p .unset;
+      low = p .low;
+      reach = p .reach;
+      first = p .first;
+    }
+
+  module _ (low : (a : ℕ) → On w alive a 0 → a < n) where
+    pub start-end : {best at s : ℕ} → n ≤ s → Sofar w n m alive best at s → StartOf (Step w n m alive) n at
+    start-end {best} {at} {s} l p = record {
+      none = λ h a k z. omega (arith, few a k z, p .unset h);
+      there = λ h. record { best = best; small = p .low h; reach = p .reach h; few = few; first = λ a k g z. p .first a k g h z };
+    }
+      where
+        few : (a k : ℕ) → Reaches (Step w n m alive) a a k → best ≤ k
+        few a k z = let o = reach-alive z in p .few a (omega (arith, low a o)) o k z
+
+    step-within : Within n (Step w n m alive)
+    step-within = record { left = λ r. low _ (r .left); right = λ r. r .cell .row }
+
+    pub no-start : {s : ℕ} → n ≤ s → StartOf (Step w n m alive) n s → LeastCycle (Step w n m alive) none
+    no-start h f = Least.absent no-cycle
+      where
+        no-cycle : (c : List ℕ) → ¬ IsCycle (Step w n m alive) c
+        no-cycle [] c = c
+        no-cycle (a ∷ xs) c = omega (arith, cycle-fits (Step w n m alive) n step-within (a ∷ xs) c, f .none h a (length xs + 1) (reach-of xs (c .1)))
+
+-- the least closed walk from the start is the least cycle
+pub start-found :
+    {R : Rel} {n s len : ℕ} {l : List ℕ} → Chosen R n s → ((k : ℕ) → Reaches R s s k → len ≤ k) → LeastTail R s s len l → LeastCycle R (some (s ∷ l))
+start-found {R} {n} {s} {len} f few t =
+    least-closed-walk R t (λ a xs v. omega (arith, short, f .few a (length xs + 1) (reach-of xs v))) (λ a xs v e. first a xs v e (decLt a s))
+  where
+    short : len ≤ f .best
+    short = few (f .best) (f .reach)
+
+    first : (a : ℕ) (xs : List ℕ) → Walk R a xs a → length xs + 1 ≡ len → Dec (a < s) → s ≤ a
+    first a xs v e (yes l) = absurd (omega (arith, f .first a (length xs + 1) l (reach-of xs v), short))
+    first a xs v e (no l) = omega arith
+
+-- ---- the way
+
+-- the fewest steps from a to s are those that are left at place i of a closed walk of len
+pub record Left (R : Rel) (s len a i : ℕ) : Type 0 where
+  pub steps : ℕ
+  pub is : steps + i ≡ len + 1
+  pub fewest : Fewest R s steps a
+
+-- from s itself all are left
+module _ {R : Rel} {w n s r : ℕ} {layers : List ℕ} (b : Back R w s (n + 1) r layers) (u : Upto R s n s) where
+  pub back-short : r < n + 1
+  back-short = omega (arith, b .few (u .steps) (u .reach), u .few)
+
+  pub back-some : 1 ≤ r
+  back-some = omega (arith, b .reach back-short .long)
+
+  pub left-all : Left R s r s 1
+  left-all = record { steps = r; is = refl; fewest = record { reach = b .reach back-short; none = λ i l z. omega (arith, b .few i z) } }
+
+-- and one from the last number
+pub left-one : {R : Rel} {s len a : ℕ} → Left R s len a len → R a s
+left-one {R} {s} {len} {a} p = last-reach (subst (Reaches R a s) (omega (arith, p .is)) (p .fewest .reach))
+
+module _ {w n s len a i x : ℕ} {m alive layers : List ℕ} (b : Back (Step w n m alive) w s (n + 1) len layers) (u : Upto (Step w n m alive) s n s) (l : i < len) (p : Left (Step w n m alive) s len a i)
+    (f : FirstStep w n m layers (len - i - 1) a x) where
+  made : Layers (Step w n m alive) w s len layers
+  made = b .made (back-short b u)
+
+  here : Fewest (Step w n m alive) s (len - i - 1 + 1 + 1) a
+  here = subst (λ (k : ℕ). Fewest (Step w n m alive) s k a) (omega (arith, p .is)) (p .fewest)
+
+  -- what next_of looks for is there
+  pub next-there : x < n
+  next-there = by (decLt x n)
     where
-      go : ((at ≡ n) × (best ≡ 255)) ⊎ Chosen n d best at n → StartOf n d at
-      go (inl p) =
-          record { within = omega arith; none = λ e a h. omega (arith, f .low a h); some = λ h. absurd (omega arith); few = λ h. absurd (omega arith); first = λ h. absurd (omega arith) }
-      go (inr p) =
-          record {
-            within = omega (arith, p .low);
-            none = λ e. absurd (omega (arith, p .low));
-            some = λ h. omega (arith, p .is, p .some);
-            few = λ h a g. omega (arith, p .is, f .low a g);
-            first = λ h a g. omega (arith, p .is, p .first a g);
-          }
+      by : Dec (x < n) → x < n
+      by (yes h) = h
+      by (no h) =
+          let (c, (r, g)) = fewest-next (len - i - 1) here in
+          absurd (f .before c (omega (arith, r .cell .row)) (made .all c (len - i - 1) (omega arith) g) (r .cell .on))
+
+  at-next : Fewest (Step w n m alive) s (len - i - 1 + 1) x
+  at-next = made .only x (len - i - 1) (omega arith) (f .hit next-there .1)
+
+  pub next-step : Step w n m alive a x
+  next-step = record { left = reach-alive (here .reach); right = reach-alive (at-next .reach); cell = record { row = next-there; on = f .hit next-there .0 } }
+
+  pub next-left : Left (Step w n m alive) s len x (i + 1)
+  next-left = record { steps = len - i - 1 + 1; is = omega arith; fewest = at-next }
+
+  pub next-least : (y : ℕ) (xs : List ℕ) → Step w n m alive a y → Walk (Step w n m alive) y xs s → length xs + 1 + i ≡ len → x ≤ y
+  next-least y xs r v e = by (decLt y x)
+    where
+      k : length xs + 1 ≡ len - i - 1 + 1
+      k = omega arith
+
+      by : Dec (y < x) → x ≤ y
+      by (yes h) =
+          let g = fewest-on here r (subst (Reaches (Step w n m alive) y s) k (reach-of xs v)) in
+          absurd (f .before y h (made .all y (len - i - 1) (omega arith) g) (r .cell .on))
+      by (no h) = omega arith

@@ -1,3 +1,4 @@
 -- What the parts of the search for a least cycle leave.
 pub mod Distances
-pub mod Ranks
+pub mod Trimmed
+pub mod Rounds

@@ -1,51 +1,62 @@
 // The least start, and from there the least next record again and again.
-use crate::distance::steps;
-use matrix::row::has;
-ghost use Prim.Native.Nat.{_<_};
-ghost use Rattle.matrix.specs.Matrix.{Square, Cell};
-ghost use Rattle.cycle.specs.Distances.{StartOf, NextOf, Writes, Wrote};
+use crate::layers::steps_back;
+use rows::row::has;
+use rows::search::next;
+ghost use Rattle.cycle.specs.Rounds.{Step, LayerRoom, StartOf, Choosing, FirstStep, Writes, WroteBack};
 
 // The first number with the fewest steps back to itself, or n.
-pub fn least_start(dist: &[u8], n: usize) -> usize
-    requires { ⌜ Square n (now dist) ⌝ }
-    ensures { λ r. ⌜ StartOf n (now (dist .entry)) r ⌝ }
+pub fn least_start(m: &[u64], w: usize, n: usize, alive: &[u64], layers: &mut [u64]) -> usize
+    requires { ⌜ LayerRoom w n (now m) (now alive) (now layers) ⌝ }
+    ensures { λ r. ⌜ StartOf (Step w n (now (m .entry)) (now (alive .entry))) n r ⌝ }
 {
-    let mut best: usize = 255;
+    let mut best = n + 1;
     let mut at = n;
-    for s in 0..n {
-        let d = steps(dist, n, s, s);
-        if d < best {
-            best = d;
+    let mut s = next(alive, w, 0, 0);
+    while s < n {
+        let len = steps_back(m, w, n, alive, s, best, layers);
+        if len < best {
+            best = len;
             at = s;
         }
+        s = next(alive, w, 0, s + 1);
     }
     at
 }
 
-// The first number with a step from a and k steps on to t, or n.
-fn next_of(m: &[u8], dist: &[u8], n: usize, a: usize, t: usize, k: usize) -> usize
-    requires { ⌜ Square n (now m) × Square n (now dist) × (a < n) × (t < n) ⌝ }
-    ensures { λ r. ⌜ NextOf (now (m .entry)) (now (dist .entry)) n a t k r ⌝ }
+// The first number of row e that a has a step to, or n.
+fn next_of(m: &[u64], w: usize, n: usize, layers: &[u64], e: usize, a: usize) -> usize
+    requires { ⌜ Choosing w n (now m) (now layers) e a ⌝ }
+    ensures { λ r. ⌜ FirstStep w n (now (m .entry)) (now (layers .entry)) e a r ⌝ }
 {
-    for x in 0..n {
-        if has(m, n, a, x) {
-            if steps(dist, n, x, t) == k {
-                return x;
-            }
+    let mut x = next(layers, w, e, 0);
+    while x < n {
+        if has(m, w, a, x) {
+            return x;
         }
+        x = next(layers, w, e, x + 1);
     }
     n
 }
 
-// The least cycle from s, of len records, at the front of `out`.
-pub fn write_cycle(m: &[u8], dist: &[u8], n: usize, s: usize, len: usize, out: &mut [u8])
-    requires { ⌜ Writes (now m) (now dist) n s len (now out) ⌝ }
-    ensures { λ _. ⌜ Wrote (Cell n (now (m .entry))) s len (now (out .entry)) (now (out .exit)) ⌝ }
+// The least cycle from s, at the front of `out`. Returns how many records it has.
+pub fn write_cycle(
+    m: &[u64],
+    w: usize,
+    n: usize,
+    alive: &[u64],
+    s: usize,
+    layers: &mut [u64],
+    out: &mut [u8],
+) -> usize
+    requires { ⌜ Writes w n (now m) (now alive) s (now layers) (now out) ⌝ }
+    ensures { λ r. ⌜ WroteBack (Step w n (now (m .entry)) (now (alive .entry))) s r (now (out .entry)) (now (out .exit)) ⌝ }
 {
+    let len = steps_back(m, w, n, alive, s, n + 1, layers);
     out[0] = s as u8;
     let mut a = s;
     for i in 1..len {
-        a = next_of(m, dist, n, a, s, len - i);
+        a = next_of(m, w, n, layers, len - i - 1, a);
         out[i] = a as u8;
     }
+    len
 }

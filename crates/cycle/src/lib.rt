@@ -1,47 +1,64 @@
-// The least cycle of a relation that is held in a byte matrix.
-mod distance;
+// The least cycle of a relation that is held in rows of words: looked for only among what can be on a cycle, and by set bits.
 mod greedy;
-mod rank;
+mod layers;
+mod trim;
 
-use crate::distance::all_steps;
-use crate::distance::steps;
 use crate::greedy::least_start;
 use crate::greedy::write_cycle;
-use crate::rank::no_cycle;
+use crate::trim::trim;
 use findings::Found;
-use limits::LIMIT;
-ghost use Prim.Native.Nat.{_*_, _≤_};
-ghost use lib.ListN.{length};
+use rows::search::next;
+ghost use Prim.Native.Nat.{ℕ, _≤_};
+ghost use Rattle.laws.specs.Says.{Says};
 ghost use Rattle.laws.specs.Steps.{IsCycle};
 ghost use Rattle.laws.specs.Witness.{CycleWith};
 ghost use Rattle.findings.specs.Meant.{FindsIn};
-ghost use Rattle.matrix.specs.Matrix.{Square, Cell};
-ghost use Rattle.limits.specs.Limit.{limit};
+ghost use Rattle.rows.specs.Rows.{Room, Cell};
+ghost use Rattle.cycle.specs.Rounds.{Step, Lends, LendsAlive};
 
-// The least cycle of m, at the front of `out`. `dist` is room to work in; it is touched only where there is a cycle.
-fn least_cycle_in(m: &[u8], n: usize, dist: &mut [u8], out: &mut [u8]) -> Found
-    requires { ⌜ (n ≤ 254) × Square n (now m) × Square n (now dist) × (n ≤ length (now out)) ⌝ }
-    ensures { λ r. ⌜ FindsIn (CycleWith (IsCycle (Cell n (now (m .entry))))) (now (out .entry)) (now (out .exit)) r ⌝ }
+// Whether some step goes from a number to one that is not higher.
+pub fn goes_back(m: &[u64], w: usize, n: usize) -> bool
+    requires { ⌜ Room w n n (now m) ⌝ }
+    ensures { λ r. ⌜ Says r ((b : ℕ) × ((a : ℕ) × (Cell w n (now (m .entry)) a b × (b ≤ a)))) ⌝ }
 {
-    if no_cycle(m, n) {
-        return Found::Nothing;
+    for b in 0..n {
+        if next(m, w, b, b) < 64 * w {
+            return true;
+        }
     }
-    all_steps(m, n, dist);
-    let s = least_start(dist, n);
+    false
+}
+
+// The least cycle among the numbers that are alive, at the front of `out`.
+fn least_cycle_among(
+    m: &[u64],
+    w: usize,
+    n: usize,
+    alive: &[u64],
+    layers: &mut [u64],
+    out: &mut [u8],
+) -> Found
+    requires { ⌜ LendsAlive w n (now m) (now alive) (now layers) (now out) ⌝ }
+    ensures { λ r. ⌜ FindsIn (CycleWith (IsCycle (Step w n (now (m .entry)) (now (alive .entry))))) (now (out .entry)) (now (out .exit)) r ⌝ }
+{
+    let s = least_start(m, w, n, alive, layers);
     if s < n {
-        let len = steps(dist, n, s, s);
-        write_cycle(m, dist, n, s, len, out);
-        Found::Cycle(len)
+        Found::Cycle(write_cycle(m, w, n, alive, s, layers, out))
     } else {
         Found::Nothing
     }
 }
 
-// The same, with room of its own.
-pub fn least_cycle(m: &[u8], n: usize, out: &mut [u8]) -> Found
-    requires { ⌜ (n ≤ limit) × Square n (now m) × (n ≤ length (now out)) ⌝ }
-    ensures { λ r. ⌜ FindsIn (CycleWith (IsCycle (Cell n (now (m .entry))))) (now (out .entry)) (now (out .exit)) r ⌝ }
+// The least cycle of m, at the front of `out`. `layers` is room to work in; it is touched only where some step goes back.
+pub fn least_cycle(m: &[u64], w: usize, n: usize, layers: &mut [u64], out: &mut [u8]) -> Found
+    requires { ⌜ Lends w n (now m) (now layers) (now out) ⌝ }
+    ensures { λ r. ⌜ FindsIn (CycleWith (IsCycle (Cell w n (now (m .entry))))) (now (out .entry)) (now (out .exit)) r ⌝ }
 {
-    let mut dist = [0u8; LIMIT * LIMIT];
-    least_cycle_in(m, n, &mut dist, out)
+    if goes_back(m, w, n) {
+        let mut alive = [0u64; 4];
+        trim(m, w, n, &mut alive);
+        least_cycle_among(m, w, n, &alive, layers, out)
+    } else {
+        Found::Nothing
+    }
 }

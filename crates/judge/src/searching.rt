@@ -1,79 +1,167 @@
 // The least witness of each finding of a sound table, searched for in its relations.
+use closure::by_stages::close;
+use closure::by_stages::gather;
+use closure::rising::rise;
+use combined::race::races;
+use combined::sequential::among;
+use combined::sequential::detours;
+use combined::sequential::elsewhere;
+use combined::writes::handed_on;
+use cycle::goes_back;
 use cycle::least_cycle;
-use findings::Finding;
 use findings::Findings;
 use findings::Found;
 use limits::LIMIT;
 use limits::SMALL;
-use relations::make_all;
-use shown::pairs::shows_pair;
-use shown::reads::unjustified;
-ghost use Prim.Native.Nat.{_≤_};
-ghost use Rattle.limits.specs.Limit.{small};
-ghost use Rattle.laws.specs.Witness.{PairWith};
-ghost use Rattle.findings.specs.declared.Finding.the-variants.{R};
-ghost use Rattle.findings.specs.Meant.{Finds};
-ghost use Rattle.model.specs.Relations.{Hb, Race};
-ghost use Rattle.model.specs.Findings.{Shows};
-ghost use Rattle.table.specs.Events.{eventsOf};
-ghost use Rattle.facts.specs.Sound.{Counted};
-ghost use Rattle.judge.specs.Answer.{Roomy};
-ghost use Rattle.relations.specs.Given.{Given, Pairing};
-ghost use Rattle.relations.specs.Worked.{Lent};
-ghost use Rattle.judge.specs.Parts.{Lending, PairShows, FoundAll};
+use pairs::asked::meet;
+use pairs::asked::meet_led;
+use pairs::asked::of_codes;
+use pairs::asked::tokens;
+use pairs::least::least_pair;
+use rows::row::has;
+use rows::row::row;
+use rows::set::both;
+use rows::set::is_empty;
+use rows::whole::clear;
+use rows::whole::copy;
+use rows::whole::each_itself;
+use rows::whole::relates_any;
+use rows::whole::sorted;
+use spread::apart::apart;
+use spread::onward::onward;
+
+// Whether the read b is not justified.
+fn unjustified(kind: &[u8], source: &[u8], place: &[u8], at: &[u64], hb: &[u64], race: &[u64], w: usize, b: usize) -> bool {
+    if kind[b] % 2 == 0 {
+        return false;
+    }
+    let raced = !is_empty(row(race, w, b));
+    let s = source[b] as usize;
+    if s < b {
+        return !has(hb, w, s, b) | raced;
+    }
+    !is_empty(both(row(hb, w, b), row(at, w, place[b] as usize))) & !raced
+}
 
 // R: the least read that is not justified.
-fn find_read(table: &[u8], n: usize, hb: &[u8], race: &[u8]) -> Found
-    requires { ⌜ Counted (now table) n × (Given n (Hb (eventsOf (now table))) (now hb) × Given n (Race (eventsOf (now table))) (now race)) ⌝ }
-    ensures { λ r. ⌜ Finds (Shows (eventsOf (now (table .entry))) R) r ⌝ }
-{
-    for r in 0..n {
-        if unjustified(table, hb, race, n, r) {
-            return Found::Record(r);
+fn find_read(kind: &[u8], source: &[u8], place: &[u8], at: &[u64], hb: &[u64], race: &[u64], w: usize, n: usize) -> Found {
+    for b in 0..n {
+        if unjustified(kind, source, place, at, hb, race, w, b) {
+            return Found::Record(b);
         }
     }
     Found::Nothing
 }
 
-// The least pair that shows the finding: "the search stops at the first pair that fits".
-fn find_pair(finding: Finding, table: &[u8], n: usize, cf: &[u8], hb: &[u8], race: &[u8]) -> Found
-    requires { ⌜ Counted (now table) n × Pairing (eventsOf (now table)) n (now cf) (now hb) (now race) ⌝ }
-    ensures { λ r. ⌜ Finds (PairWith (PairShows (eventsOf (now (table .entry))) finding)) r ⌝ }
-{
-    let mut found = Found::Nothing;
-    'search: for p in 0..n {
-        for q in 0..n {
-            if shows_pair(finding, table, cf, hb, race, n, p, q) {
-                found = Found::Pair(p, q);
-                break 'search;
-            }
-        }
+// wb, and the readers of what is wb before each.
+fn close_writes(back: bool, kind: &[u8], place: &[u8], order: &[u8], at: &[u64], readers: &[u64], wb0: &[u64], wb: &mut [u64], over: &mut [u64], w: usize, n: usize) {
+    if back {
+        copy(wb0, wb, w, n);
+        close(place, at, wb, w, n, 33);
+        gather(order, 4, readers, wb, over, w, n);
+    } else {
+        let mut left = [0u64; 4];
+        rise(wb0, readers, wb, over, &mut left, w, n);
     }
-    found
 }
 
-// Each finding in order, in the relations that it speaks of.
+// A4, in the rows of the steps among SC records.
+fn find_sc(
+    back: bool,
+    parent: &[u8],
+    sync: &[u8],
+    place: &[u8],
+    kind: &[u8],
+    order: &[u8],
+    own: &[u64],
+    hb: &[u64],
+    writes: &[u64],
+    readers: &[u64],
+    orders: &[u64],
+    wb0: &[u64],
+    wb: &mut [u64],
+    over: &mut [u64],
+    at: &mut [u64],
+    po: &mut [u64],
+    other: &mut [u64],
+    around: &mut [u64],
+    detour: &mut [u64],
+    second: &mut [u8],
+    w: usize,
+    n: usize,
+) -> Found {
+    let nowhere = [255u8; LIMIT];
+    close_writes(back, kind, place, order, writes, readers, wb0, wb, over, w, n);
+    clear(at, w, n, 33);
+    sorted(place, at, w, n, 32);
+    onward(parent, &nowhere, own, po, w, n);
+    elsewhere(place, po, at, other, w, n);
+    onward(parent, sync, other, around, w, n);
+    detours(parent, place, other, around, detour, w, n);
+    among(order, place, orders, at, hb, detour, wb, over, po, w, n);
+    least_cycle(po, w, n, around, second)
+}
+
+// In lent room.
 fn find_in(
     table: &[u8],
     n: usize,
-    cf: &[u8],
-    hb: &[u8],
-    race: &[u8],
-    wb0: &[u8],
-    sc: &[u8],
+    w: usize,
+    own: &mut [u64],
+    hb: &mut [u64],
+    cf: &mut [u64],
+    below: &mut [u64],
+    arms: &mut [u64],
+    race: &mut [u64],
+    readers: &mut [u64],
+    shows: &mut [u64],
+    owners: &mut [u64],
+    wb0: &mut [u64],
+    po: &mut [u64],
+    other: &mut [u64],
+    detour: &mut [u64],
+    writes: &mut [u64],
+    at: &mut [u64],
     first: &mut [u8],
     second: &mut [u8],
-) -> Findings
-    requires { ⌜ Counted (now table) n × Pairing (eventsOf (now table)) n (now cf) (now hb) (now race) × Lending (eventsOf (now table)) n (now wb0) (now sc) (now first) (now second) ⌝ }
-    ensures { λ x. ⌜ FoundAll (eventsOf (now (table .entry))) (now (first .entry)) (now (first .exit)) (now (second .entry)) (now (second .exit)) x ⌝ }
-{
-    let r = find_read(table, n, hb, race);
-    let a1 = least_cycle(wb0, n, first);
-    let a2 = find_pair(Finding::A2, table, n, cf, hb, race);
-    let a3 = find_pair(Finding::A3, table, n, cf, hb, race);
-    let a4 = least_cycle(sc, n, second);
-    let a5 = find_pair(Finding::A5, table, n, cf, hb, race);
-    let w = find_pair(Finding::W, table, n, cf, hb, race);
+) -> Findings {
+    let mut parent = [0u8; LIMIT];
+    let mut arm = [0u8; LIMIT];
+    let mut source = [0u8; LIMIT];
+    let mut sync = [0u8; LIMIT];
+    let mut place = [0u8; LIMIT];
+    let mut kind = [0u8; LIMIT];
+    let mut order = [0u8; LIMIT];
+    let mut na = [0u64; 4];
+    let mut orders = [0u64; 20];
+    columns::read(table, n, &mut parent, &mut arm, &mut source, &mut sync, &mut place, &mut kind, &mut order);
+    each_itself(own, w, n);
+    onward(&parent, &sync, own, hb, w, n);
+    apart(&parent, &arm, own, below, arms, cf, w, n);
+    races(&place, &kind, &order, hb, cf, writes, &mut na, race, w, n);
+    let r = find_read(&kind, &source, &place, writes, hb, race, w, n);
+    of_codes(&kind, 2, race, shows, w, n);
+    let wp = least_pair(shows, w, n);
+    tokens(&kind, &source, cf, readers, shows, w, n);
+    let a5 = least_pair(shows, w, n);
+    sorted(&source, readers, w, n, n);
+    let mut a2 = Found::Nothing;
+    let mut a3 = Found::Nothing;
+    if relates_any(cf, w, n) {
+        meet(hb, cf, shows, w, n);
+        a2 = least_pair(shows, w, n);
+        apart(&parent, &arm, readers, below, arms, po, w, n);
+        meet_led(&source, hb, po, shows, w, n);
+        a3 = least_pair(shows, w, n);
+    }
+    handed_on(&parent, &sync, &kind, &source, &place, writes, owners, wb0, w, n);
+    let a1 = least_cycle(wb0, w, n, shows, first);
+    sorted(&order, &mut orders, w, n, 5);
+    let mut a4 = Found::Nothing;
+    if !is_empty(row(&orders, w, 4)) {
+        let back = goes_back(wb0, w, n);
+        a4 = find_sc(back, &parent, &sync, &place, &kind, &order, own, hb, writes, readers, &orders, wb0, below, arms, at, po, other, shows, detour, second, w, n);
+    }
     Findings {
         r: r,
         a1: a1,
@@ -81,90 +169,49 @@ fn find_in(
         a3: a3,
         a4: a4,
         a5: a5,
-        w: w,
+        w: wp,
     }
 }
 
-// What is found of each finding of a sound table, its relations in lent room; the cycle of A1 in the first buffer, that of A4 in the second.
-fn find_within(
-    table: &[u8],
-    n: usize,
-    po: &mut [u8],
-    cf: &mut [u8],
-    hb: &mut [u8],
-    race: &mut [u8],
-    wb0: &mut [u8],
-    wb: &mut [u8],
-    sc: &mut [u8],
-    first: &mut [u8],
-    second: &mut [u8],
-) -> Findings
-    requires { ⌜ Counted (now table) n × Roomy (now first) (now second) × Lent n (now po) (now cf) (now hb) (now race) (now wb0) (now wb) (now sc) ⌝ }
-    ensures { λ x. ⌜ FoundAll (eventsOf (now (table .entry))) (now (first .entry)) (now (first .exit)) (now (second .entry)) (now (second .exit)) x ⌝ }
-{
-    make_all(table, n, po, cf, hb, race, wb0, wb, sc);
-    find_in(table, n, cf, hb, race, wb0, sc, first, second)
+fn find_small(table: &[u8], n: usize, first: &mut [u8], second: &mut [u8]) -> Findings {
+    let mut own = [0u64; 64];
+    let mut hb = [0u64; 64];
+    let mut cf = [0u64; 64];
+    let mut below = [0u64; 64];
+    let mut arms = [0u64; 64];
+    let mut race = [0u64; 64];
+    let mut readers = [0u64; 64];
+    let mut shows = [0u64; 65];
+    let mut owners = [0u64; 64];
+    let mut wb0 = [0u64; 64];
+    let mut po = [0u64; 64];
+    let mut other = [0u64; 64];
+    let mut detour = [0u64; 64];
+    let mut writes = [0u64; 33];
+    let mut at = [0u64; 33];
+    find_in(table, n, 1, &mut own, &mut hb, &mut cf, &mut below, &mut arms, &mut race, &mut readers, &mut shows, &mut owners, &mut wb0, &mut po, &mut other, &mut detour, &mut writes, &mut at, first, second)
 }
 
-// In room for a small table: less is to be cleared.
-fn find_small(table: &[u8], n: usize, first: &mut [u8], second: &mut [u8]) -> Findings
-    requires { ⌜ Counted (now table) n × Roomy (now first) (now second) × (n ≤ small) ⌝ }
-    ensures { λ x. ⌜ FoundAll (eventsOf (now (table .entry))) (now (first .entry)) (now (first .exit)) (now (second .entry)) (now (second .exit)) x ⌝ }
-{
-    let mut po = [0u8; SMALL * SMALL];
-    let mut cf = [0u8; SMALL * SMALL];
-    let mut hb = [0u8; SMALL * SMALL];
-    let mut race = [0u8; SMALL * SMALL];
-    let mut wb0 = [0u8; SMALL * SMALL];
-    let mut wb = [0u8; SMALL * SMALL];
-    let mut sc = [0u8; SMALL * SMALL];
-    find_within(
-        table,
-        n,
-        &mut po,
-        &mut cf,
-        &mut hb,
-        &mut race,
-        &mut wb0,
-        &mut wb,
-        &mut sc,
-        first,
-        second,
-    )
+fn find_large(table: &[u8], n: usize, first: &mut [u8], second: &mut [u8]) -> Findings {
+    let mut own = [0u64; 800];
+    let mut hb = [0u64; 800];
+    let mut cf = [0u64; 800];
+    let mut below = [0u64; 800];
+    let mut arms = [0u64; 800];
+    let mut race = [0u64; 800];
+    let mut readers = [0u64; 800];
+    let mut shows = [0u64; 804];
+    let mut owners = [0u64; 800];
+    let mut wb0 = [0u64; 800];
+    let mut po = [0u64; 800];
+    let mut other = [0u64; 800];
+    let mut detour = [0u64; 800];
+    let mut writes = [0u64; 132];
+    let mut at = [0u64; 132];
+    find_in(table, n, if n <= 128 { 2 } else { 4 }, &mut own, &mut hb, &mut cf, &mut below, &mut arms, &mut race, &mut readers, &mut shows, &mut owners, &mut wb0, &mut po, &mut other, &mut detour, &mut writes, &mut at, first, second)
 }
 
-// In room for any table.
-fn find_large(table: &[u8], n: usize, first: &mut [u8], second: &mut [u8]) -> Findings
-    requires { ⌜ Counted (now table) n × Roomy (now first) (now second) ⌝ }
-    ensures { λ x. ⌜ FoundAll (eventsOf (now (table .entry))) (now (first .entry)) (now (first .exit)) (now (second .entry)) (now (second .exit)) x ⌝ }
-{
-    let mut po = [0u8; LIMIT * LIMIT];
-    let mut cf = [0u8; LIMIT * LIMIT];
-    let mut hb = [0u8; LIMIT * LIMIT];
-    let mut race = [0u8; LIMIT * LIMIT];
-    let mut wb0 = [0u8; LIMIT * LIMIT];
-    let mut wb = [0u8; LIMIT * LIMIT];
-    let mut sc = [0u8; LIMIT * LIMIT];
-    find_within(
-        table,
-        n,
-        &mut po,
-        &mut cf,
-        &mut hb,
-        &mut race,
-        &mut wb0,
-        &mut wb,
-        &mut sc,
-        first,
-        second,
-    )
-}
-
-// The same, with room of its own.
-pub fn find_all(table: &[u8], n: usize, first: &mut [u8], second: &mut [u8]) -> Findings
-    requires { ⌜ Counted (now table) n × Roomy (now first) (now second) ⌝ }
-    ensures { λ x. ⌜ FoundAll (eventsOf (now (table .entry))) (now (first .entry)) (now (first .exit)) (now (second .entry)) (now (second .exit)) x ⌝ }
-{
+pub fn find_all(table: &[u8], n: usize, first: &mut [u8], second: &mut [u8]) -> Findings {
     if n <= SMALL {
         return find_small(table, n, first, second);
     }

@@ -24,15 +24,19 @@ module _ {P : ℕ → ℕ → Type 0} where
   pub passed-none : Passed P 0 0
   passed-none = record { rows = λ x y l. absurd (omega arith); here = λ y l. absurd (omega arith) }
 
-  -- one number more, and the end of a row
+  -- one number more
   pub passed-more : {p q : ℕ} → ¬ P p q → Passed P p q → Passed P p (q + 1)
   passed-more {p} {q} n k = record { rows = k .rows; here = λ y l. tri y q (k .here y) (λ e s. n (subst (P p) e s)) (λ g. absurd (omega arith)) }
 
-  pub passed-row : {n p q : ℕ} → Within n P → n ≤ q → Passed P p q → Passed P (p + 1) 0
-  passed-row {n} {p} {q} w h k = record {
-    rows = λ x y l. tri x p (k .rows x y) (λ e s. let t = subst (λ (z : ℕ). P z y) e s in k .here y (omega (arith, w .right t)) t) (λ g. absurd (omega arith));
+  -- a row that has none of them, and a row that is passed to its end
+  pub passed-over : {p q : ℕ} → ((y : ℕ) → ¬ P p y) → Passed P p q → Passed P (p + 1) 0
+  passed-over {p} never k = record {
+    rows = λ x y l. tri x p (k .rows x y) (λ e s. never y (subst (λ (z : ℕ). P z y) e s)) (λ g. absurd (omega arith));
     here = λ y l. absurd (omega arith);
   }
+
+  pub passed-row : {n p q : ℕ} → Within n P → n ≤ q → Passed P p q → Passed P (p + 1) 0
+  passed-row w h k = passed-over (λ y s. k .here y (omega (arith, w .right s)) s) k
 
   pub passed-all : {n p q : ℕ} → Within n P → n ≤ p → Passed P p q → LeastPair P none
   passed-all w h k = Least.absent (λ z s. k .rows (z .first) (z .second) (omega (arith, w .left s)) s)

@@ -1,5 +1,5 @@
--- Walks and cycles of any relation: a shortest closed walk is a cycle; different records below n are at most n; a walk by records
--- up to k is one by records below k, or two that meet at k; the least next record, again and again, gives the least cycle.
+-- Walks and cycles of any relation: a shortest closed walk is a cycle; different records below n are at most n; the least next record,
+-- again and again, gives the least cycle.
 use Prim.Native.Nat.{ℕ, zero, suc, _+_, _<_, _≤_}
 use mathlib.Core.Path.{_≡_, refl, sym, subst}
 use mathlib.Core.List.{List, [], _∷_, _++_}
@@ -17,16 +17,6 @@ use Rattle.laws.proofs.Steps.{Within, plus-trans}
 abbrev pub Below : ℕ → List ℕ → Type 0
 Below k [] = Unit {0}
 Below k (x ∷ xs) = (x < k) × Below k xs
-
--- a walk from a to b by way of k, with no k and nothing above it in between, of at most m records in between
-pub record Meets (R : Rel) (k a b m : ℕ) : Type 0 where
-  pub first : List ℕ
-  pub second : List ℕ
-  pub to : Walk R a first k
-  pub to-below : Below k first
-  pub from : Walk R k second b
-  pub from-below : Below k second
-  pub short : length first + length second + 1 ≤ m
 
 -- different records below n are at most n
 record Rest (k : ℕ) (xs : List ℕ) : Type 0 where
@@ -60,19 +50,6 @@ module _ (R : Rel) where
   pub joined : (a : ℕ) (p : List ℕ) (k : ℕ) (q : List ℕ) (b : ℕ) → Walk R a p k → Walk R k q b → Walk R a (p ++ k ∷ q) b
   joined a [] k q b v w = (v, w)
   joined a (x ∷ p) k q b v w = (v .0, joined x p k q b (v .1) w)
-
-  pub split : (k a : ℕ) (xs : List ℕ) (b : ℕ) → Walk R a xs b → Below (suc k) xs → Below k xs ⊎ Meets R k a b (length xs)
-  split k a [] b w h = inl tt
-  split k a (x ∷ xs) b w h = go (ℕ-discrete x k) (split k x xs b (w .1) (h .1))
-    where
-      go : Dec (x ≡ k) → Below k xs ⊎ Meets R k x b (length xs) → Below k (x ∷ xs) ⊎ Meets R k a b (suc (length xs))
-      go (yes e) (inl s) =
-          inr (record { first = []; second = xs; to = subst (λ (y : ℕ). R a y) e (w .0); to-below = tt; from = subst (λ (y : ℕ). Walk R y xs b) e (w .1); from-below = s; short = omega arith })
-      go (yes e) (inr s) =
-          inr (record { first = []; second = s .second; to = subst (λ (y : ℕ). R a y) e (w .0); to-below = tt; from = s .from; from-below = s .from-below; short = omega (arith, s .short) })
-      go (no ne) (inl s) = inl (omega (arith, h .0), s)
-      go (no ne) (inr s) =
-          inr (record { first = x ∷ s .first; second = s .second; to = (w .0, s .to); to-below = (omega (arith, h .0), s .to-below); from = s .from; from-below = s .from-below; short = omega (arith, s .short) })
 
   -- on a walk either a does not stand, or a shorter walk leads to it
   closes : (a c : ℕ) (xs : List ℕ) (b : ℕ) → Walk R c xs b → NotIn a xs ⊎ ((p : List ℕ) × Walk R c p a × (length p < length xs))

@@ -8,6 +8,7 @@ use native.Mathlib.Omega.{arith}
 use lib.Count.{leadingZeros, trailingZeros}
 use lib.ListN.{getD}
 use lib.Pow.{pow-mono, shr-le}
+use Rattle.laws.proofs.Closure.{tri}
 use Rattle.rows.specs.Sets.{digit}
 use Rattle.rows.specs.Rows.{On}
 use Rattle.rows.specs.Found.{NextOf, LastOf}
@@ -156,3 +157,12 @@ module _ {w b : ℕ} {m : List ℕ} where
           by-word : (a : ℕ) → On w m a b → ¬ (a / 64 ≡ k) → Dec (k < a / 64) → a ≤ 64 * k + top
           by-word a o n (yes h) = absurd (c .from a (omega arith) o)
           by-word a o n (no h) = omega arith
+
+-- the numbers of a row, one after another: what holds of those before k, and of k, holds of those before the next
+module _ {w b : ℕ} {m : List ℕ} (P : ℕ → Type 0) where
+  pub along-none : {r : ℕ} → NextOf w m b 0 r → (a : ℕ) → a < r → On w m a b → P a
+  along-none f a l o = absurd (f .before a (omega arith) l o)
+
+  pub along-more :
+      {k r : ℕ} → ((a : ℕ) → a < k → On w m a b → P a) → (On w m k b → P k) → NextOf w m b (k + 1) r → (a : ℕ) → a < r → On w m a b → P a
+  along-more {k} {r} old new f a l o = tri a k (λ h. old a h o) (λ e. subst P (sym e) (new (subst (λ (z : ℕ). On w m z b) e o))) (λ h. absurd (f .before a (omega arith) l o))

@@ -3,6 +3,7 @@ pub mod Digits
 pub mod Sets
 pub mod Parts
 pub mod Rows
+pub mod Noted
 pub mod Trailing
 pub mod Leading
 pub mod Along

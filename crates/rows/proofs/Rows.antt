@@ -7,7 +7,7 @@ use native.Mathlib.Nat.{add-zero}
 use native.Mathlib.Omega.{arith}
 use native.Mathlib.Decide.{ℕ-discrete, decLt}
 use lib.Bits.{bitAnd, bitOr, bitXor}
-use lib.ListN.{getD, set, replicate}
+use lib.ListN.{length, getD, set, replicate}
 use lib.Seq.{getD-set-same, getD-set-other}
 use borrow.Author.Count.{below-more}
 use Rattle.rows.specs.declared.set.Set.{Set}
@@ -178,8 +178,11 @@ module _ {w : ℕ} {m m′ : List ℕ} (b : ℕ) (o : Outside (b * w) (b * w + w
   on-was x =
       record { col = x .col; is1 = sym (ap (λ (z : ℕ). digit z (a % 64)) (words-kept b c (a / 64) ne (omega (arith, x .col)) o)) ∙ x .is1 }
 
+pub holds-none : {w : ℕ} {R : ℕ → ℕ → Type 0} {m : List ℕ} → Holds w 0 R m
+holds-none = record { all = λ a b l. absurd (omega arith); only = λ a b l. absurd (omega arith) }
+
 pub made-none : {w : ℕ} {R : ℕ → ℕ → Type 0} {m : List ℕ} → Made w 0 R m m
-made-none = record { rest = outside-none; holds = record { all = λ a b l. absurd (omega arith); only = λ a b l. absurd (omega arith) } }
+made-none = record { rest = outside-none; holds = holds-none }
 
 -- one row more
 pub made-more : {w n : ℕ} {R : ℕ → ℕ → Type 0} {m₀ m m′ : List ℕ} → Made w n R m₀ m → MadeRow w n (λ a. R a n) m m′ → Made w (n + 1) R m₀ m′
@@ -192,6 +195,10 @@ made-more {w} {n} {R} {m₀} {m} {m′} k r =
         only = λ a. below-more (λ b. On w m′ a b → R a b) n (λ b l o. k .holds .only a b l (on-was n (r .rest) (λ e. omega (arith, e)) o)) (r .only a);
       };
     }
+
+-- one row more, where what the rest was does not matter
+pub holds-more : {w n : ℕ} {R : ℕ → ℕ → Type 0} {m m′ : List ℕ} → Holds w n R m → MadeRow w n (λ a. R a n) m m′ → Holds w (n + 1) R m′
+holds-more h r = made-more (record { rest = outside-none; holds = h }) r .holds
 
 -- all of the rows, where a loop over them ends
 pub made-whole : {w b n : ℕ} {R : ℕ → ℕ → Type 0} {m m′ : List ℕ} → b ≡ n → Made w b R m m′ → Made w n R m m′
@@ -262,15 +269,16 @@ room-row {w} r b l = record { width = r .width; room = omega (arith, r .room, ro
 pub room-place : {w n h : ℕ} {m : List ℕ} → Room w n h m → (a b : ℕ) → a < n → b < h → Place w m a b
 room-place r a b i l = record { col = omega (arith, r .wide); room = room-row r b l .room }
 
--- a matrix of which a part was written has room as before
-outside-room : {w n h lo hi : ℕ} {m m′ : List ℕ} → Room w n h m → Outside lo hi m m′ → Room w n h m′
-outside-room r o = record { width = r .width; wide = r .wide; room = omega (arith, r .room, o .size) }
+-- where the length is kept, the room is
+pub room-kept : {w n h : ℕ} {m m′ : List ℕ} → length m′ ≡ length m → Room w n h m → Room w n h m′
+room-kept e r = record { width = r .width; wide = r .wide; room = omega (arith, r .room, e) }
 
+-- a matrix of which rows were made has room as before
 pub made-row-room : {w n h b : ℕ} {P : ℕ → Type 0} {m m′ : List ℕ} → Room w n h m → MadeRow w b P m m′ → Room w n h m′
-made-row-room r p = outside-room r (p .rest)
+made-row-room r p = room-kept (p .rest .size) r
 
 pub made-room : {w n h k : ℕ} {R : ℕ → ℕ → Type 0} {m m′ : List ℕ} → Room w n h m → Made w k R m m′ → Room w n h m′
-made-room r p = outside-room r (p .rest)
+made-room r p = room-kept (p .rest .size) r
 
 -- and holds what it was made to
 pub made-given : {w n : ℕ} {R : ℕ → ℕ → Type 0} {m m′ : List ℕ} → Room w n n m → Made w n R m m′ → Given w n R m′

@@ -2,6 +2,7 @@
 use crate::row::add;
 use crate::row::put;
 use crate::row::row;
+use crate::set::Set;
 use crate::set::either;
 use crate::set::is_empty;
 use crate::set::nothing;
@@ -9,7 +10,8 @@ ghost use mathlib.Core.Path.{_≡_};
 ghost use Prim.Native.Nat.{ℕ, _<_, _≤_};
 ghost use lib.ListN.{length, getD};
 ghost use Rattle.laws.specs.Says.{Says};
-ghost use Rattle.rows.specs.Rows.{On, Holds, Room, Made};
+ghost use Rattle.rows.specs.Sets.{Is};
+ghost use Rattle.rows.specs.Rows.{On, Holds, Room, Cell, Made};
 
 // The first h rows become empty.
 pub fn clear(m: &mut [u64], w: usize, n: usize, h: usize)
@@ -64,14 +66,22 @@ pub fn sorted(column: &[u8], out: &mut [u64], w: usize, n: usize, h: usize)
     sort_in(column, out, w, n, h);
 }
 
-// Whether any row has a number.
-pub fn relates_any(m: &[u64], w: usize, n: usize) -> bool
+// All that any of the first n rows has.
+pub fn joined(m: &[u64], w: usize, n: usize) -> Set
     requires { ⌜ Room w n n (now m) ⌝ }
-    ensures { λ r. ⌜ Says r ((b : ℕ) × ((a : ℕ) × ((b < n) × On w (now (m .entry)) a b))) ⌝ }
+    ensures { λ r. ⌜ Is r (λ a. (b : ℕ) × Cell w n (now (m .entry)) a b) ⌝ }
 {
     let mut all = nothing();
     for b in 0..n {
         all = either(all, row(m, w, b));
     }
-    !is_empty(all)
+    all
+}
+
+// Whether any row has a number.
+pub fn relates_any(m: &[u64], w: usize, n: usize) -> bool
+    requires { ⌜ Room w n n (now m) ⌝ }
+    ensures { λ r. ⌜ Says r ((b : ℕ) × ((a : ℕ) × ((b < n) × On w (now (m .entry)) a b))) ⌝ }
+{
+    !is_empty(joined(m, w, n))
 }

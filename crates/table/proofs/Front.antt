@@ -15,7 +15,7 @@ use Rattle.limits.specs.Limit.{limit}
 use Rattle.table.specs.declared.Tested.{Tested}
 use Rattle.table.specs.Test.{lengthOk, Passes, CheckAnswer, RecordsAnswer, TestAnswer, records}
 use Rattle.table.specs.Computed.{checked}
-use Rattle.table.specs.Standing.{AllStand}
+use Rattle.table.specs.Standing.{Stands, AllStand}
 use Rattle.table.proofs.Exact.{decodes-alike, check-exact}
 
 module _ (b : List ℕ) (count : ℕ) (held : 16 * count ≤ length b) where
@@ -35,9 +35,12 @@ module _ (b : List ℕ) (count : ℕ) (held : 16 * count ≤ length b) where
       rw (front-part n h) (check-exact b (take (16 * count) b) n (λ m l. front-part m (omega arith)))
 
   -- records that pass as a table of their own stand in b
+  pub front-stand : (n : ℕ) → n < count → Passes (take (16 * count) b) n → Stands b n
+  front-stand n h passed = record { held = omega (arith, held); decodes = decodes-alike (sym (front-part n h)) (passed .decodes) }
+
   pub front-stands : (n : ℕ) → n ≤ count → ((m : ℕ) → m < n → Passes (take (16 * count) b) m) → AllStand b n
   front-stands n h passed =
-      record { held = omega (arith, held); decodes = λ m l. decodes-alike (sym (front-part m (omega arith))) (passed m l .decodes) }
+      record { held = omega (arith, held); decodes = λ m l. front-stand m (omega arith) (passed m l) .decodes }
 
 -- ---- a table of a right length is the front of itself
 

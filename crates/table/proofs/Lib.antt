@@ -4,6 +4,8 @@ pub mod Telling
 pub mod Unique
 pub mod Exact
 pub mod Standing
+pub mod Siblings
+pub mod Columns
 pub mod Front
 pub mod WellFormed
 pub mod Written

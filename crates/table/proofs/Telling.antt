@@ -39,7 +39,7 @@ known-not-u e =
     let z : _≡_ {A = ℕ} 0 1 = cc in
     omega arith
 
-says-link : (l m : Link) → Says (sameLink l m) (l ≡ m)
+pub says-link : (l m : Link) → Says (sameLink l m) (l ≡ m)
 says-link Absent Absent = says-yes refl
 says-link Absent (To q) = says-no (λ e. absent-to refl e)
 says-link (To p) Absent = says-no (λ e. absent-to e refl)

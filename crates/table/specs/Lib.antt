@@ -4,3 +4,4 @@ pub mod Test
 pub mod Computed
 pub mod Standing
 pub mod New
+pub mod Siblings

@@ -1,18 +1,16 @@
-// Tests 6 to 8 of a record, to stand as record n, against the n records before it.
+// Tests 6 and 7 of a record, to stand as record n, against the n records before it.
 ghost use mathlib.Core.Path.{_≡_};
-ghost use Rattle.table.specs.Computed.{rooted, stood, misplaced, parentFault, unfit, sourceFault, twinned, twinFault};
+ghost use Rattle.table.specs.Computed.{rooted, stood, misplaced, parentFault, unfit, sourceFault};
 ghost use Rattle.table.specs.Events.{eventsOf};
-ghost use Rattle.table.specs.Standing.{Stands, AllStand};
+ghost use Rattle.table.specs.Standing.{AllStand};
 use crate::accesses::Access;
-use crate::accesses::branches;
 use crate::accesses::is_init;
 use crate::accesses::is_u;
 use crate::accesses::read_by;
 use crate::accesses::same_link;
 use crate::accesses::suits;
 use crate::accesses::written_by;
-use crate::stored::parent_at;
-use crate::stored::record_at;
+use crate::stored::standing_at;
 use crate::stored::thread_at;
 use events::Link;
 use events::Record;
@@ -76,7 +74,7 @@ fn is_unfit(table: &[u8], n: usize, s: usize, location: u8, read: Value) -> bool
     ensures { λ r. ⌜ r ≡ unfit (eventsOf (now (table .entry)) .at) n s location read ⌝ }
 {
     if s < n {
-        let source = record_at(table, s);
+        let source = standing_at(table, s);
         let event = source.event;
         return !suits(written_by(event), location, read);
     }
@@ -97,31 +95,4 @@ pub fn source_fault(table: &[u8], n: usize, new: Record) -> bool
             Link::To(s) => is_unfit(table, n, wide(s), location, value),
         },
     }
-}
-
-// Record m "has the same parent and thread, and the two are not both reads of one location with different read values".
-fn is_twin(table: &[u8], m: usize, new: Record) -> bool
-    requires { ⌜ Stands (now table) m ⌝ }
-    ensures { λ r. ⌜ r ≡ twinned (eventsOf (now (table .entry)) .at m) new ⌝ }
-{
-    let parent = new.parent;
-    if same_link(parent_at(table, m), parent) & (thread_at(table, m) == new.thread) {
-        let other = record_at(table, m);
-        let a = other.event;
-        let b = new.event;
-        return !branches(read_by(a), read_by(b));
-    }
-    false
-}
-
-// Refusal 8.
-pub fn twin_fault(table: &[u8], n: usize, new: Record) -> bool
-    requires { ⌜ AllStand (now table) n ⌝ }
-    ensures { λ r. ⌜ r ≡ twinFault (eventsOf (now (table .entry)) .at) n new ⌝ }
-{
-    let mut found = false;
-    for m in 0..n {
-        found = found | is_twin(table, m, new);
-    }
-    found
 }

@@ -2,6 +2,7 @@
 mod accesses;
 mod faults;
 mod stored;
+mod twins;
 
 ghost use mathlib.Core.Path.{_≡_};
 ghost use mathlib.Core.List.{_++_};
@@ -12,15 +13,19 @@ ghost use Rattle.record.specs.Form.{recordSize, encode};
 ghost use Rattle.table.specs.Computed.{checked};
 ghost use Rattle.table.specs.Events.{eventsOf};
 ghost use Rattle.table.specs.New.{PassingUse};
-ghost use Rattle.table.specs.Standing.{AllStand};
+ghost use Rattle.table.specs.Siblings.{Kept};
 ghost use Rattle.table.specs.Test.{lengthOk, CheckAnswer, RecordsAnswer, TestAnswer};
 use events::Record;
 use limits::LIMIT;
 use record::Decoded;
+use record::places::NONE;
 use record::places::SIZE;
 use refusals::Fault;
 use refusals::Refusal;
 pub use stored::record_at;
+
+// How many records the columns have room for: as many as a byte can number beside `NONE`.
+const KEPT: usize = 255;
 
 // What the test of one record says.
 pub enum Checked {
@@ -35,8 +40,8 @@ pub enum Tested {
 }
 
 // Tests 6 to 8, "in order within one; the first fault is the answer".
-fn check_event(table: &[u8], n: usize, new: Record) -> Checked
-    requires { ⌜ AllStand (now table) n ⌝ }
+fn check_event(table: &[u8], n: usize, last: &[u8], older: &[u8], new: Record) -> Checked
+    requires { ⌜ Kept (now table) n (now last) (now older) ⌝ }
     ensures { λ r. ⌜ r ≡ checked (eventsOf (now (table .entry)) .at) n (Good new) ⌝ }
 {
     if faults::parent_fault(table, n, new) {
@@ -45,19 +50,19 @@ fn check_event(table: &[u8], n: usize, new: Record) -> Checked
     if faults::source_fault(table, n, new) {
         return Checked::Faulty(Fault::Source);
     }
-    if faults::twin_fault(table, n, new) {
+    if twins::twin_fault(table, n, last, older, new) {
         return Checked::Faulty(Fault::Twin);
     }
     Checked::Fine
 }
 
 // The test of what was read as record n.
-fn check_decoded(table: &[u8], n: usize, d: Decoded) -> Checked
-    requires { ⌜ AllStand (now table) n ⌝ }
+fn check_decoded(table: &[u8], n: usize, last: &[u8], older: &[u8], d: Decoded) -> Checked
+    requires { ⌜ Kept (now table) n (now last) (now older) ⌝ }
     ensures { λ r. ⌜ r ≡ checked (eventsOf (now (table .entry)) .at) n d ⌝ }
 {
     match d {
-        Decoded::Good(r) => check_event(table, n, r),
+        Decoded::Good(r) => check_event(table, n, last, older, r),
         Decoded::Bad(f) => Checked::Faulty(f),
     }
 }
@@ -68,7 +73,9 @@ pub fn check_new(table: &[u8], n: usize, r: Record) -> Checked
     ensures { λ c. ⌜ CheckAnswer (take (recordSize * n) (now (table .entry)) ++ encode r) n c ⌝ }
 {
     let new = record::bytes_of(r);
-    check_decoded(table, n, record::read_part(&new))
+    // For one record no columns are made: it is held against every earlier one.
+    let none: [u8; 0] = [];
+    check_decoded(table, n, &none, &none, record::read_part(&new))
 }
 
 // The test of the first `count` records.
@@ -76,9 +83,11 @@ pub fn test_records(table: &[u8], count: usize) -> Tested
     requires { ⌜ recordSize * count ≤ length (now table) ⌝ }
     ensures { λ r. ⌜ RecordsAnswer (take (recordSize * count) (now (table .entry))) r ⌝ }
 {
+    let mut last = [NONE; KEPT];
+    let mut older = [NONE; KEPT];
     for n in 0..count {
-        match check_decoded(table, n, slots::read_at(table, n)) {
-            Checked::Fine => {}
+        match check_decoded(table, n, &last, &older, slots::read_at(table, n)) {
+            Checked::Fine => twins::keep_child(table, n, &mut last, &mut older),
             Checked::Faulty(f) => {
                 return Tested::Refused(Refusal::Record(f, n));
             }

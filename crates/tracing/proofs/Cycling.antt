@@ -1,22 +1,20 @@
 -- The least cycle of any relation on the numbers below n: the first record with the fewest steps back, then the least next record again and again.
-use mathlib.Core.Path.{_≡_, refl, ap, subst, _∙_}
-use mathlib.Core.List.{List, [], _∷_, _++_, append-assoc, append-nil}
+use mathlib.Core.Path.{_≡_, refl, subst}
+use mathlib.Core.List.{List, [], _∷_}
 use mathlib.Core.Logic.{_⊎_, inl, inr, ⊎-elim}
 use mathlib.Core.Option.{none, some}
-use Prim.Native.Nat.{ℕ, suc, _+_, _-_, _<_, _≤_}
+use Prim.Native.Nat.{ℕ, _+_, _-_, _<_, _≤_}
 use native.Mathlib.Omega.{arith}
-use native.Mathlib.Numerals.{add-one}
 use native.Mathlib.Decide.{decLt}
-use lib.ListN.{length, length-append, getD, set, drop}
-use lib.Seq.{drop-cons, set-at, drop-set-lt}
+use lib.ListN.{length, set}
 use Rattle.laws.specs.Steps.{Rel, Walk, IsCycle}
 use Rattle.laws.specs.Least.{Least, LeastCycle}
 use Rattle.laws.specs.Tails.{LeastTail}
 use Rattle.laws.proofs.Closure.{tri}
 use Rattle.laws.proofs.Steps.{Within}
-use Rattle.laws.proofs.Walks.{at-most, different, walk-below, last-step, chosen, least-closed-walk, walk-starts, cycle-fits}
+use Rattle.laws.proofs.Walks.{at-most, different, walk-below, least-closed-walk, walk-starts, cycle-fits}
 use Rattle.cycle.specs.Distances.{Reaches, Wrote}
-use Rattle.cycle.proofs.Writing.{Writing}
+use Rattle.cycle.proofs.Writing.{Writing, writing-on, writing-close}
 use Rattle.tracing.specs.Layers.{entry, StepsTo}
 use Rattle.tracing.specs.Cycles.{Back, Chosen, StartOf, NextOf}
 
@@ -82,35 +80,15 @@ module _ {R : Rel} {n s : ℕ} {d : List ℕ} (on : Within n R) (sh : StepsTo R 
 
     pub writing-more :
         {before out : List ℕ} → i < len → 1 ≤ i → i < length before → NextOf R n d a (len - i) x → Writing R s len before out a i → Writing R s len before (set out i x) x (i + 1)
-    writing-more {before} {out} hi h1 room f w =
-        record {
-          p = w .p ++ (x ∷ []);
-          long = omega (arith, length-append (w .p) (x ∷ []), w .long);
-          holds =
-              ap (λ (o : List ℕ). set o i x) (w .holds ∙ ap (λ (l : List ℕ). s ∷ (w .p ++ l)) (drop-cons before i 0 room))
-              ∙ set-at (s ∷ w .p) (getD before i 0) (drop (suc i) before) x i (omega (arith, w .long))
-              ∙ rw (add-one, append-assoc);
-          more = λ k t e l. rw append-assoc (w .more (k + 1) (x ∷ t) (omega arith) (chosen R (f .hit hx .0) l (first k (omega arith))));
-        }
+    writing-more {before} {out} hi h1 room f w = writing-on room (f .hit (next-there hi h1 f) .0) (λ y xs r v e. first y xs r v e (decLt y x)) w
       where
-        hx : x < n
-        hx = next-there hi h1 f
-
-        first : (k : ℕ) → k ≡ len - i → (y : ℕ) (xs : List ℕ) → R a y → Walk R y xs s → length xs + 1 ≡ k → x ≤ y
-        first k t y xs r v e = go (decLt y x)
-          where
-            go : Dec (y < x) → x ≤ y
-            go (yes l) = absurd (f .before y l r (exact xs r v (omega arith) (omega arith) (omega arith)))
-            go (no l) = omega arith
+        first : (y : ℕ) (xs : List ℕ) → R a y → Walk R y xs s → length xs + 1 + i ≡ len → Dec (y < x) → x ≤ y
+        first y xs r v e (yes l) = absurd (f .before y l r (exact xs r v (omega arith) (omega arith) (omega arith)))
+        first y xs r v e (no l) = omega arith
 
   pub writing-end :
       {a len : ℕ} {o out : List ℕ} → a < n → 1 ≤ len → entry d a + len ≡ len + 1 → Writing R s len (set o 0 s) out a len → Wrote R s len o out
-  writing-end {a} {len} {o} ha h1 q w =
-      record {
-        list = w .p ++ [];
-        tail = w .more 1 [] (omega arith) (last-step R (last (z .by) (z .walk) (z .long)));
-        holds = w .holds ∙ rw (append-nil, drop-set-lt len o 0 s (omega arith));
-      }
+  writing-end {a} {len} ha h1 q w = writing-close h1 (last (z .by) (z .walk) (z .long)) w
     where
       z : Reaches R a s (entry d a)
       z = sh .sound a ha (omega arith)

@@ -10,7 +10,7 @@ use Rattle.table.proofs.check_decoded.Tie as tie
 returns : tie.Need-returns
 returns c =
     let told = c .before .before in
-    let a = told .before .before .before .args in
+    let a = told .before .before .before .before .before .args in
     c .check-event .ensures ∙ ap (checked (eventsOf (now (a .table)) .at) (a .n)) (sym (told .d .given .1))
 
 pub check-decoded-spec : {M : Type 1} → statement M

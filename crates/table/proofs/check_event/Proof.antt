@@ -33,4 +33,4 @@ returns-4 c =
     )
 
 pub check-event-spec : {M : Type 1} → statement M
-check-event-spec = tie.close (tie.spec (λ c κs. search needs) returns (λ c κs. search needs) returns-2 (λ c κs. search needs) returns-3 returns-4)
+check-event-spec = tie.close (tie.spec (λ c κs. c .before .before .before .pre .stand) returns (λ c κs. c .before .before .before .before .before .pre .stand) returns-2 (λ c κs. search needs) returns-3 returns-4)

@@ -9,6 +9,7 @@ use Rattle.record.specs.Form.{decode, encode}
 use Rattle.table.specs.Computed.{checked}
 use Rattle.table.specs.Events.{eventsOf}
 use Rattle.table.specs.Test.{CheckAnswer}
+use Rattle.table.proofs.Columns.{kept-none}
 use Rattle.table.proofs.Front.{front-stands}
 use Rattle.table.proofs.NewRecord.{new-exact}
 use borrow.Author.Needs.{needs}
@@ -17,13 +18,13 @@ use Rattle.table.proofs.check_new.Tie as tie
 
 check-decoded-requires : tie.Need-check-decoded-requires
 check-decoded-requires c κs =
-    let entry = c .before .before .before .before in
+    let entry = c .before .before .before .before .before .before in
     let a = entry .args in
-    front-stands (now (a .table)) (a .n) (entry .pre .held) _ (omega arith) (λ m h. entry .pre .passed m (omega arith))
+    kept-none (front-stands (now (a .table)) (a .n) (entry .pre .held) _ (omega arith) (λ m h. entry .pre .passed m (omega arith)))
 
 returns : tie.Need-returns
 returns c =
-    let made = c .before .before .before in
+    let made = c .before .before .before .before .before in
     let entry = made .before .before in
     let a = entry .args in
     let b = now (a .table) in
@@ -33,4 +34,4 @@ returns c =
     subst (CheckAnswer (take (16 * a .n) b ++ encode (a .r)) (a .n)) (sym same) (new-exact b (a .n) (a .r) (entry .pre .held))
 
 pub check-new-spec : {M : Type 1} → statement M
-check-new-spec = tie.close (tie.spec (search needs) (search needs) (search needs) check-decoded-requires returns)
+check-new-spec = tie.close (tie.spec (search needs) (search needs) (search needs) (search needs) (search needs) check-decoded-requires returns)

@@ -15,13 +15,13 @@ Inv-loop class members m₀ w n h k₀ m k = InClasses w n h class members m × 
 abbrev μ-loop : tie.MeasureT-loop
 μ-loop class members m₀ w n h k₀ m k = n - k
 
-close-through-requires : tie.Need-close-through-requires Inv-loop μ-loop
-close-through-requires c κs = (c .before .loop-test .taken, c .before .before .loop .inv .0)
+close-by-requires : tie.Need-close-by-requires Inv-loop μ-loop
+close-by-requires c κs = (c .before .loop-test .taken, c .before .before .loop .inv .0)
 
 loop-again : tie.Need-loop-again Inv-loop μ-loop
 loop-again c =
     let turn = c .before .before .before .before .before .loop in
-    let through = c .before .before .close-through .ensures in
+    let through = c .before .before .close-by .ensures in
     (classes-kept (turn .inv .0) through, stage-more (c .before .before .before .before .loop-test .taken) (turn .inv .1) through, omega arith)
 
 returns : tie.Need-returns Inv-loop μ-loop
@@ -33,5 +33,5 @@ returns c =
 pub close-spec : {M : Type 1} → statement M
 close-spec =
     tie.close
-    (tie.spec Inv-loop μ-loop (λ c. (c .before .before .before .pre, stage-none _ _ _, omega arith)) close-through-requires (λ c. omega arith)
+    (tie.spec Inv-loop μ-loop (λ c. (c .before .before .before .pre, stage-none _ _ _, omega arith)) close-by-requires (λ c. omega arith)
     (λ c. omega arith) loop-again (λ c. returns c .rest .size) returns)

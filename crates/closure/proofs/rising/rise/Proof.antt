@@ -42,9 +42,13 @@ loop-less c = nearer _ _ (c .before .before .before .before .before .before .bef
 loop-again : tie.Need-loop-again Inv-loop μ-loop
 loop-again c =
     let turn = c .before .before .before .before .before .before .before .before .before .before .before .loop in
-    let (out, over, left) = c .before .before .before .before .before .before .rise-row .ensures in
-    let rooms = rooms-kept (turn .inv .1) (out .rest .size) (over .rest .size) (left .rest .size) in
-    (omega arith, rooms, made-more (turn .inv .2) out, made-more (turn .inv .3) over, made-trans (turn .inv .4) left)
+    let (out, over, left) = c .before .before .before .before .before .before .rise-row .ensures in (
+      omega arith,
+      rooms-kept (turn .inv .1) (out .rest .size) (over .rest .size) (left .rest .size),
+      made-more (turn .inv .2) out,
+      made-more (turn .inv .3) over,
+      made-trans (turn .inv .4) left,
+    )
 
 returns : tie.Need-returns Inv-loop μ-loop
 returns c =

@@ -2,8 +2,9 @@
 use mathlib.Core.Path.{_≡_, refl, sym, _∙_}
 use native.Mathlib.Omega.{arith}
 use Rattle.rows.proofs.Rows.{room-place}
+use Rattle.rows.proofs.Noted.{noted, not-noted}
 use Rattle.combined.specs.Columns.{OfOrder}
-use Rattle.combined.proofs.Racing.{noted, not-noted, order-up, order-down}
+use Rattle.combined.proofs.Racing.{order-up, order-down}
 use Rattle.combined.proofs.race.note_na.Statement.{statement}
 use Rattle.combined.proofs.race.note_na.Tie as tie
 

@@ -2,8 +2,9 @@
 use mathlib.Core.Path.{_≡_, refl, sym}
 use native.Mathlib.Omega.{arith}
 use Rattle.rows.proofs.Rows.{room-place}
+use Rattle.rows.proofs.Noted.{noted, not-noted}
 use Rattle.combined.specs.Columns.{Placed, WritesAt}
-use Rattle.combined.proofs.Racing.{noted, not-noted, write-up, write-down}
+use Rattle.combined.proofs.Racing.{write-up, write-down}
 use Rattle.combined.proofs.race.note_write.Statement.{statement}
 use Rattle.combined.proofs.race.note_write.Tie as tie
 

@@ -1,0 +1,2 @@
+-- Laws of the pairs that are asked for.
+pub mod Taking

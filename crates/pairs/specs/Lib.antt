@@ -1,0 +1,2 @@
+-- Pairs that rows tell.
+pub mod Tokens

@@ -1,0 +1,6 @@
+-- What the searches' answers tell of a table.
+pub mod Reading
+pub mod Pairing
+pub mod Sources
+pub mod Cycles
+pub mod Writing

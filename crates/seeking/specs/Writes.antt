@@ -1,0 +1,24 @@
+-- What tells wb0, and room to look for its cycles.
+use mathlib.Core.List.{List}
+use Prim.Native.Nat.{ℕ, _+_}
+use Rattle.model.specs.Table.{Table}
+use Rattle.rows.specs.Rows.{Room, Holds}
+use Rattle.cycle.specs.Rounds.{OutRoom}
+use Rattle.combined.specs.Columns.{WritesAt}
+use Rattle.combined.specs.Writes.{HandingRoom}
+use Rattle.columns.specs.Columns.{parentNumber, sourceNumber, syncNumber, placeNumber, kindNumber, Column, Known}
+
+pub record WriteRoom (w n : ℕ) (parent sync kind source place at owners steps layers out : List ℕ) : Type 0 where
+  pub handing : HandingRoom w n parent sync kind source place at owners steps
+  pub for-layers : Room w n (n + 1) layers
+  pub for-out : OutRoom n out
+
+-- columns and rows of the table t
+pub record Writing (t : Table) (w n : ℕ) (parent sync kind source place at : List ℕ) : Type 0 where
+  pub known : Known t n
+  pub parents : Column n (parentNumber t) parent
+  pub syncs : Column n (syncNumber t) sync
+  pub kinds : Column n (kindNumber t) kind
+  pub sources : Column n (sourceNumber t) source
+  pub places : Column n (placeNumber t) place
+  pub by-at : Holds w 33 (WritesAt n kind place) at
