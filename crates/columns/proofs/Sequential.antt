@@ -18,24 +18,8 @@ use Rattle.model.proofs.Facts.{parent-earlier, sc-inside, location-left}
 use Rattle.model.proofs.Laws.{po-iff-parent}
 use Rattle.model.proofs.Within.{po-rises, po-within, hb-within}
 use Rattle.columns.specs.Columns.{noPlace, parentNumber, placeNumber, orderNumber, Column, Known}
+use Rattle.columns.specs.Sequential.{StandsAt, Detour, direct, by-way-of-hb, Overtaken}
 use Rattle.columns.proofs.Facts.{inside, below, led-by-parent, parent-leads, order-sc, sc-order, one-place, one-location, located}
-
--- a stands at the place l, one of the 32
-pub record StandsAt (n : ℕ) (place : List ℕ) (a l : ℕ) : Type 0 where
-  pub low : a < n
-  pub at : getD place a 0 ≡ l
-  pub some : l < noPlace
-
--- "po≠; or po≠, then hb, then po≠"
-pub data Detour (t : Table) (a b : ℕ) : Type 0 where
-  direct : PoDiff t a b → Detour t a b
-  by-way-of-hb : PoHbPo t a b → Detour t a b
-
--- a read whose source is wb before b
-pub record Overtaken (t : Table) (a b : ℕ) : Type 0 where
-  pub s : ℕ
-  pub source : Source t s a
-  pub before : Wb t s b
 
 module _ {t : Table} {n : ℕ} (k : Known t n) {place : List ℕ} (p : Column n (placeNumber t) place) where
   here-location : {a b : ℕ} → b < n → StandsAt n place a (getD place b 0) → OneLocation t a b

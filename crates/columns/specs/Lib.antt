@@ -1,3 +1,4 @@
 -- The columns of a table.
 pub mod Columns
 pub mod Codes
+pub mod Sequential

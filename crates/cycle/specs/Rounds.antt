@@ -15,6 +15,10 @@ pub record Step (w n : ℕ) (m alive : List ℕ) (a b : ℕ) : Type 0 where
   pub right : On w alive b 0
   pub cell : Cell w n m a b
 
+-- some step goes from a number to one that is not higher
+abbrev pub GoesBack : ℕ → ℕ → List ℕ → Type 0
+GoesBack w n m = (b : ℕ) × ((a : ℕ) × (Cell w n m a b × (b ≤ a)))
+
 -- a has a step to a number of row e
 pub record Enters (w n : ℕ) (m layers : List ℕ) (e a : ℕ) : Type 0 where
   pub to : ℕ

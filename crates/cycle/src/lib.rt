@@ -8,18 +8,17 @@ use crate::greedy::write_cycle;
 use crate::trim::trim;
 use findings::Found;
 use rows::search::next;
-ghost use Prim.Native.Nat.{ℕ, _≤_};
 ghost use Rattle.laws.specs.Says.{Says};
 ghost use Rattle.laws.specs.Steps.{IsCycle};
 ghost use Rattle.laws.specs.Witness.{CycleWith};
 ghost use Rattle.findings.specs.Meant.{FindsIn};
 ghost use Rattle.rows.specs.Rows.{Room, Cell};
-ghost use Rattle.cycle.specs.Rounds.{Step, Lends, LendsAlive};
+ghost use Rattle.cycle.specs.Rounds.{Step, GoesBack, Lends, LendsAlive};
 
 // Whether some step goes from a number to one that is not higher.
 pub fn goes_back(m: &[u64], w: usize, n: usize) -> bool
     requires { ⌜ Room w n n (now m) ⌝ }
-    ensures { λ r. ⌜ Says r ((b : ℕ) × ((a : ℕ) × (Cell w n (now (m .entry)) a b × (b ≤ a)))) ⌝ }
+    ensures { λ r. ⌜ Says r (GoesBack w n (now (m .entry))) ⌝ }
 {
     for b in 0..n {
         if next(m, w, b, b) < 64 * w {
@@ -49,12 +48,19 @@ fn least_cycle_among(
     }
 }
 
-// The least cycle of m, at the front of `out`. `layers` is room to work in; it is touched only where some step goes back.
-pub fn least_cycle(m: &[u64], w: usize, n: usize, layers: &mut [u64], out: &mut [u8]) -> Found
-    requires { ⌜ Lends w n (now m) (now layers) (now out) ⌝ }
+// The least cycle of m, at the front of `out`. `back` says whether some step goes back: where none does there is none. `layers` is room to work in.
+pub fn least_cycle(
+    m: &[u64],
+    back: bool,
+    w: usize,
+    n: usize,
+    layers: &mut [u64],
+    out: &mut [u8],
+) -> Found
+    requires { ⌜ Lends w n (now m) (now layers) (now out) × Says back (GoesBack w n (now m)) ⌝ }
     ensures { λ r. ⌜ FindsIn (CycleWith (IsCycle (Cell w n (now (m .entry))))) (now (out .entry)) (now (out .exit)) r ⌝ }
 {
-    if goes_back(m, w, n) {
+    if back {
         let mut alive = [0u64; 4];
         trim(m, w, n, &mut alive);
         least_cycle_among(m, w, n, &alive, layers, out)

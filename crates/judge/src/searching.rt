@@ -19,15 +19,20 @@ use pairs::asked::of_codes;
 use pairs::asked::tokens;
 use pairs::least::least_pair;
 use rows::row::has;
+use rows::row::put;
 use rows::row::row;
 use rows::set::both;
 use rows::set::is_empty;
+use rows::set::nothing;
 use rows::whole::clear;
 use rows::whole::copy;
 use rows::whole::each_itself;
 use rows::whole::relates_any;
 use rows::whole::sorted;
 use spread::apart::apart;
+use spread::forks::forks;
+use spread::onward::along;
+use spread::onward::before;
 use spread::onward::onward;
 
 // Whether the read b is not justified.
@@ -73,7 +78,6 @@ fn find_sc(
     place: &[u8],
     kind: &[u8],
     order: &[u8],
-    own: &[u64],
     hb: &[u64],
     writes: &[u64],
     readers: &[u64],
@@ -90,16 +94,24 @@ fn find_sc(
     w: usize,
     n: usize,
 ) -> Found {
-    let nowhere = [255u8; LIMIT];
     close_writes(back, kind, place, order, writes, readers, wb0, wb, over, w, n);
-    clear(at, w, n, 33);
     sorted(place, at, w, n, 32);
-    onward(parent, &nowhere, own, po, w, n);
+    put(at, w, 32, nothing());
+    along(parent, po, w, n);
     elsewhere(place, po, at, other, w, n);
     onward(parent, sync, other, around, w, n);
     detours(parent, place, other, around, detour, w, n);
     among(order, place, orders, at, hb, detour, wb, over, po, w, n);
     least_cycle(po, w, n, around, second)
+}
+
+fn lay_conflict(parent: &[u8], arm: &[u8], own: &mut [u64], below: &mut [u64], arms: &mut [u64], cf: &mut [u64], w: usize, n: usize) {
+    if forks(arm, n) {
+        each_itself(own, w, n);
+        apart(parent, arm, own, below, arms, cf, w, n);
+    } else {
+        clear(cf, w, n, n);
+    }
 }
 
 // In lent room.
@@ -117,9 +129,6 @@ fn find_in(
     shows: &mut [u64],
     owners: &mut [u64],
     wb0: &mut [u64],
-    po: &mut [u64],
-    other: &mut [u64],
-    detour: &mut [u64],
     writes: &mut [u64],
     at: &mut [u64],
     first: &mut [u8],
@@ -135,9 +144,8 @@ fn find_in(
     let mut na = [0u64; 4];
     let mut orders = [0u64; 20];
     columns::read(table, n, &mut parent, &mut arm, &mut source, &mut sync, &mut place, &mut kind, &mut order);
-    each_itself(own, w, n);
-    onward(&parent, &sync, own, hb, w, n);
-    apart(&parent, &arm, own, below, arms, cf, w, n);
+    before(&parent, &sync, hb, w, n);
+    lay_conflict(&parent, &arm, own, below, arms, cf, w, n);
     races(&place, &kind, &order, hb, cf, writes, &mut na, race, w, n);
     let r = find_read(&kind, &source, &place, writes, hb, race, w, n);
     of_codes(&kind, 2, race, shows, w, n);
@@ -150,17 +158,20 @@ fn find_in(
     if relates_any(cf, w, n) {
         meet(hb, cf, shows, w, n);
         a2 = least_pair(shows, w, n);
-        apart(&parent, &arm, readers, below, arms, po, w, n);
-        meet_led(&source, hb, po, shows, w, n);
+        apart(&parent, &arm, readers, below, arms, own, w, n);
+        meet_led(&source, hb, own, shows, w, n);
         a3 = least_pair(shows, w, n);
     }
     handed_on(&parent, &sync, &kind, &source, &place, writes, owners, wb0, w, n);
-    let a1 = least_cycle(wb0, w, n, shows, first);
+    let back = goes_back(wb0, w, n);
+    let mut a1 = Found::Nothing;
+    if back {
+        a1 = least_cycle(wb0, w, n, shows, first);
+    }
     sorted(&order, &mut orders, w, n, 5);
     let mut a4 = Found::Nothing;
     if !is_empty(row(&orders, w, 4)) {
-        let back = goes_back(wb0, w, n);
-        a4 = find_sc(back, &parent, &sync, &place, &kind, &order, own, hb, writes, readers, &orders, wb0, below, arms, at, po, other, shows, detour, second, w, n);
+        a4 = find_sc(back, &parent, &sync, &place, &kind, &order, hb, writes, readers, &orders, wb0, below, arms, at, own, race, shows, cf, second, w, n);
     }
     Findings {
         r: r,
@@ -184,12 +195,25 @@ fn find_small(table: &[u8], n: usize, first: &mut [u8], second: &mut [u8]) -> Fi
     let mut shows = [0u64; 65];
     let mut owners = [0u64; 64];
     let mut wb0 = [0u64; 64];
-    let mut po = [0u64; 64];
-    let mut other = [0u64; 64];
-    let mut detour = [0u64; 64];
     let mut writes = [0u64; 33];
     let mut at = [0u64; 33];
-    find_in(table, n, 1, &mut own, &mut hb, &mut cf, &mut below, &mut arms, &mut race, &mut readers, &mut shows, &mut owners, &mut wb0, &mut po, &mut other, &mut detour, &mut writes, &mut at, first, second)
+    find_in(table, n, 1, &mut own, &mut hb, &mut cf, &mut below, &mut arms, &mut race, &mut readers, &mut shows, &mut owners, &mut wb0, &mut writes, &mut at, first, second)
+}
+
+fn find_middle(table: &[u8], n: usize, first: &mut [u8], second: &mut [u8]) -> Findings {
+    let mut own = [0u64; 256];
+    let mut hb = [0u64; 256];
+    let mut cf = [0u64; 256];
+    let mut below = [0u64; 256];
+    let mut arms = [0u64; 256];
+    let mut race = [0u64; 256];
+    let mut readers = [0u64; 256];
+    let mut shows = [0u64; 258];
+    let mut owners = [0u64; 256];
+    let mut wb0 = [0u64; 256];
+    let mut writes = [0u64; 66];
+    let mut at = [0u64; 66];
+    find_in(table, n, 2, &mut own, &mut hb, &mut cf, &mut below, &mut arms, &mut race, &mut readers, &mut shows, &mut owners, &mut wb0, &mut writes, &mut at, first, second)
 }
 
 fn find_large(table: &[u8], n: usize, first: &mut [u8], second: &mut [u8]) -> Findings {
@@ -203,17 +227,17 @@ fn find_large(table: &[u8], n: usize, first: &mut [u8], second: &mut [u8]) -> Fi
     let mut shows = [0u64; 804];
     let mut owners = [0u64; 800];
     let mut wb0 = [0u64; 800];
-    let mut po = [0u64; 800];
-    let mut other = [0u64; 800];
-    let mut detour = [0u64; 800];
     let mut writes = [0u64; 132];
     let mut at = [0u64; 132];
-    find_in(table, n, if n <= 128 { 2 } else { 4 }, &mut own, &mut hb, &mut cf, &mut below, &mut arms, &mut race, &mut readers, &mut shows, &mut owners, &mut wb0, &mut po, &mut other, &mut detour, &mut writes, &mut at, first, second)
+    find_in(table, n, 4, &mut own, &mut hb, &mut cf, &mut below, &mut arms, &mut race, &mut readers, &mut shows, &mut owners, &mut wb0, &mut writes, &mut at, first, second)
 }
 
 pub fn find_all(table: &[u8], n: usize, first: &mut [u8], second: &mut [u8]) -> Findings {
     if n <= SMALL {
         return find_small(table, n, first, second);
+    }
+    if n <= 128 {
+        return find_middle(table, n, first, second);
     }
     find_large(table, n, first, second)
 }

@@ -2,6 +2,7 @@
 use findings::Found;
 use rows::row::has;
 use rows::row::put;
+use rows::set::is_empty;
 use rows::whole::joined;
 ghost use Prim.Native.Nat.{ℕ, _<_};
 ghost use Rattle.laws.specs.Witness.{PairWith};
@@ -32,7 +33,11 @@ pub fn least_pair(m: &[u64], w: usize, n: usize) -> Found
     requires { ⌜ Room w n n (now m) ⌝ }
     ensures { λ r. ⌜ Finds (PairWith (λ p q. (p < n) × Cell w n (now (m .entry)) p q)) r ⌝ }
 {
+    let all = joined(m, w, n);
+    if is_empty(all) {
+        return Found::Nothing;
+    }
     let mut firsts = [0u64; 4];
-    put(&mut firsts, w, 0, joined(m, w, n));
+    put(&mut firsts, w, 0, all);
     least_among(m, &firsts, w, n)
 }

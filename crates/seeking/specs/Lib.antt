@@ -2,3 +2,4 @@
 pub mod Reads
 pub mod Pairs
 pub mod Writes
+pub mod Sequential

@@ -1,17 +1,10 @@
--- What tells wb0, and room to look for its cycles.
+-- What tells wb0.
 use mathlib.Core.List.{List}
-use Prim.Native.Nat.{ℕ, _+_}
+use Prim.Native.Nat.{ℕ}
 use Rattle.model.specs.Table.{Table}
-use Rattle.rows.specs.Rows.{Room, Holds}
-use Rattle.cycle.specs.Rounds.{OutRoom}
+use Rattle.rows.specs.Rows.{Holds}
 use Rattle.combined.specs.Columns.{WritesAt}
-use Rattle.combined.specs.Writes.{HandingRoom}
 use Rattle.columns.specs.Columns.{parentNumber, sourceNumber, syncNumber, placeNumber, kindNumber, Column, Known}
-
-pub record WriteRoom (w n : ℕ) (parent sync kind source place at owners steps layers out : List ℕ) : Type 0 where
-  pub handing : HandingRoom w n parent sync kind source place at owners steps
-  pub for-layers : Room w n (n + 1) layers
-  pub for-out : OutRoom n out
 
 -- columns and rows of the table t
 pub record Writing (t : Table) (w n : ℕ) (parent sync kind source place at : List ℕ) : Type 0 where

@@ -12,7 +12,7 @@ ghost use Rattle.findings.specs.declared.Finding.the-variants.{R};
 ghost use Rattle.findings.specs.Meant.{Finds};
 ghost use Rattle.model.specs.Table.{Table};
 ghost use Rattle.model.specs.Findings.{ShowsR, Shows};
-ghost use Rattle.model.specs.Relations.{Justified};
+ghost use Rattle.model.specs.Relations.{Justified, StandsOnRace};
 ghost use Rattle.rows.specs.Rows.{On, Room};
 ghost use Rattle.combined.specs.Columns.{Placed};
 ghost use Rattle.seeking.specs.Reads.{ReadRoom, Reading};
@@ -54,6 +54,27 @@ fn justified(
         return has(hb, w, s, b) & !raced;
     }
     !is_written(place, at, hb, w, n, b) | raced
+}
+
+// "It stands on a race if it has no source, some write of its location is hb before it, and some earlier write races with it"
+pub fn stands_on_race(
+    kind: &[u8],
+    source: &[u8],
+    place: &[u8],
+    at: &[u64],
+    hb: &[u64],
+    race: &[u64],
+    w: usize,
+    n: usize,
+    b: usize,
+) -> bool
+    requires { ⌜ (b < n) × (n ≤ length (now kind)) × ReadRoom w n (now source) (now place) (now at) (now hb) (now race) ⌝ }
+    ensures { λ r. ⌜ ((t : Table) → Reading t w n (now (kind .entry)) (now (source .entry)) (now (place .entry)) (now (at .entry)) (now (hb .entry)) (now (race .entry)) → Says r (StandsOnRace t b)) ⌝ }
+{
+    if (source[b] as usize) < b {
+        return false;
+    }
+    (kind[b] % 2 == 1) & is_written(place, at, hb, w, n, b) & is_raced(race, w, n, b)
 }
 
 // R: "some read is not justified". A kind that reads is odd.

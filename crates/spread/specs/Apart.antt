@@ -33,3 +33,13 @@ module _ (n : ℕ) (parent : List ℕ) where
   -- so at b or above it
   abbrev pub Apart : List ℕ → Rel → Rel
   Apart arm X = Then (Beside arm X) (Star (Leads parent))
+
+-- the column leads from one number to two of those below n
+pub record Forks (n : ℕ) (column : List ℕ) : Type 0 where
+  pub from : ℕ
+  pub first : ℕ
+  pub second : ℕ
+  pub apart : first < second
+  pub low : second < n
+  pub to-first : Leads column from first
+  pub to-second : Leads column from second

@@ -1,3 +1,4 @@
 // Relations that spread along steps that columns give, row by row.
 pub mod apart;
+pub mod forks;
 pub mod onward;

@@ -1,12 +1,26 @@
 // A relation and then one or more steps: each row from the rows of the numbers that step to it.
 use rows::led::from_either;
+use rows::led::row_before;
+use rows::row::add;
 use rows::row::put;
 use rows::set::either;
-ghost use Prim.Native.Nat.{_≤_};
+ghost use mathlib.Core.Logic.{_⊎_};
+ghost use Prim.Native.Nat.{_<_, _≤_};
 ghost use lib.ListN.{length};
 ghost use Rattle.laws.specs.Steps.{Plus};
-ghost use Rattle.rows.specs.Rows.{On, Room, Made};
-ghost use Rattle.rows.specs.Steps.{ByEither, Then};
+ghost use Rattle.rows.specs.Rows.{On, Room, MadeRow, Made};
+ghost use Rattle.rows.specs.Steps.{Leads, ByEither, Then};
+
+// Row b takes in the number that the column leads to b from, if it does.
+fn add_led(column: &[u8], out: &mut [u64], w: usize, n: usize, b: usize)
+    requires { ⌜ (b < n) × (n ≤ length (now column)) × Room w n n (now out) ⌝ }
+    ensures { λ _. ⌜ MadeRow w b (λ a. On w (now (out .entry)) a b ⊎ Leads (now (column .entry)) a b) (now (out .entry)) (now (out .exit)) ⌝ }
+{
+    let v = column[b] as usize;
+    if v < b {
+        add(out, w, v, b);
+    }
+}
 
 // x, then one or more steps by either column.
 pub fn onward(first: &[u8], second: &[u8], x: &[u64], out: &mut [u64], w: usize, n: usize)
@@ -17,5 +31,30 @@ pub fn onward(first: &[u8], second: &[u8], x: &[u64], out: &mut [u64], w: usize,
         let one = from_either(first, second, x, w, n, b);
         let more = from_either(first, second, out, w, n, b);
         put(out, w, b, either(one, more));
+    }
+}
+
+// One or more steps by either column.
+pub fn before(first: &[u8], second: &[u8], out: &mut [u64], w: usize, n: usize)
+    requires { ⌜ (n ≤ length (now first)) × (n ≤ length (now second)) × Room w n n (now out) ⌝ }
+    ensures { λ _. ⌜ Made w n (Plus (ByEither (now (first .entry)) (now (second .entry)))) (now (out .entry)) (now (out .exit)) ⌝ }
+{
+    for b in 0..n {
+        let more = from_either(first, second, out, w, n, b);
+        put(out, w, b, more);
+        add_led(first, out, w, n, b);
+        add_led(second, out, w, n, b);
+    }
+}
+
+// One or more steps by the column.
+pub fn along(column: &[u8], out: &mut [u64], w: usize, n: usize)
+    requires { ⌜ (n ≤ length (now column)) × Room w n n (now out) ⌝ }
+    ensures { λ _. ⌜ Made w n (Plus (Leads (now (column .entry)))) (now (out .entry)) (now (out .exit)) ⌝ }
+{
+    for b in 0..n {
+        let more = row_before(column, out, w, n, b);
+        put(out, w, b, more);
+        add_led(column, out, w, n, b);
     }
 }

@@ -1,0 +1,2 @@
+-- What the searches and a cut stand on.
+pub mod Laid
