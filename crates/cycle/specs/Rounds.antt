@@ -59,6 +59,11 @@ pub record StartOf (R : Rel) (n s : ℕ) : Type 0 where
   pub none : n ≤ s → (a k : ℕ) → Reaches R a a k → n < k
   pub there : s < n → Chosen R n s
 
+-- of what is alive, the numbers from s on are left
+pub record Rest (w : ℕ) (alive rest : List ℕ) (s : ℕ) : Type 0 where
+  pub all : (a : ℕ) → On w alive a 0 → s ≤ a → On w rest a 0
+  pub only : (a : ℕ) → On w rest a 0 → On w alive a 0 × (s ≤ a)
+
 -- the first number of row e that a has a step to, or n
 pub record FirstStep (w n : ℕ) (m layers : List ℕ) (e a x : ℕ) : Type 0 where
   pub within : x ≤ n

@@ -1,23 +1,37 @@
 // The least start, and from there the least next record again and again.
 use crate::layers::steps_back;
+use rows::row::drop;
 use rows::row::has;
+use rows::row::put;
+use rows::row::row;
 use rows::search::next;
+ghost use Rattle.rows.specs.Rows.{Room};
 ghost use Rattle.cycle.specs.Rounds.{Step, LayerRoom, StartOf, Choosing, FirstStep, Writes, WroteBack};
 
-// The first number with the fewest steps back to itself, or n.
-pub fn least_start(m: &[u64], w: usize, n: usize, alive: &[u64], layers: &mut [u64]) -> usize
-    requires { ⌜ LayerRoom w n (now m) (now alive) (now layers) ⌝ }
+// The first number with the fewest steps back to itself, or n. A number that was tried is left out from then on: whatever leads back by way
+// of it was met. `rest` is room for a row.
+pub fn least_start(
+    m: &[u64],
+    w: usize,
+    n: usize,
+    alive: &[u64],
+    rest: &mut [u64],
+    layers: &mut [u64],
+) -> usize
+    requires { ⌜ LayerRoom w n (now m) (now alive) (now layers) × Room w n 1 (now rest) ⌝ }
     ensures { λ r. ⌜ StartOf (Step w n (now (m .entry)) (now (alive .entry))) n r ⌝ }
 {
+    put(rest, w, 0, row(alive, w, 0));
     let mut best = n + 1;
     let mut at = n;
     let mut s = next(alive, w, 0, 0);
     while s < n {
-        let len = steps_back(m, w, n, alive, s, best, layers);
+        let len = steps_back(m, w, n, rest, s, best, layers);
         if len < best {
             best = len;
             at = s;
         }
+        drop(rest, w, s, 0);
         s = next(alive, w, 0, s + 1);
     }
     at

@@ -40,7 +40,8 @@ fn least_cycle_among(
     requires { ⌜ LendsAlive w n (now m) (now alive) (now layers) (now out) ⌝ }
     ensures { λ r. ⌜ FindsIn (CycleWith (IsCycle (Step w n (now (m .entry)) (now (alive .entry))))) (now (out .entry)) (now (out .exit)) r ⌝ }
 {
-    let s = least_start(m, w, n, alive, layers);
+    let mut rest = [0u64; 4];
+    let s = least_start(m, w, n, alive, &mut rest, layers);
     if s < n {
         Found::Cycle(write_cycle(m, w, n, alive, s, layers, out))
     } else {
