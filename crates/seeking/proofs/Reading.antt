@@ -23,6 +23,7 @@ use Rattle.model.proofs.Facts.{has-source, write-inside}
 use Rattle.columns.specs.Columns.{linkNumber, kindOf}
 use Rattle.columns.proofs.Facts.{below, write-located, kind-writes, writes-kind, led-by-source, source-leads, one-place, one-location}
 use Rattle.seeking.specs.Reads.{Reading}
+use Rattle.seeking.proofs.Places.{place-low}
 
 -- a set that is not empty has a number
 pub says-some : {x : Set} {P : ℕ → Type 0} {r : Bool} → Is x P → Says r ((a : ℕ) → ¬ In x a) → Says (not r) ((a : ℕ) × P a)
@@ -38,12 +39,12 @@ module _ {t : Table} {w n : ℕ} {kind source place at hb race : List ℕ} (g : 
   pub raced-told : {r : Bool} → Says r ((a : ℕ) × On w race a b) → Says r (SomeEarlierRace t b)
   raced-told = says-iff (λ (a, o). (a, g .by-race .only a b l o)) (λ (a, e). (a, g .by-race .all a b l e))
 
-  place-low : getD place b 0 < 33
-  place-low = let h = g .known .located b l in omega (arith, h, g .places .says b l)
+  abbrev low : getD place b 0 < 33
+  low = place-low (g .known) (g .places) b l
 
   write-before : (a : ℕ) → On w hb a b → On w at a (getD place b 0) → WriteBefore t a b
   write-before a o p =
-      let x = g .by-at .only a (getD place b 0) place-low p in
+      let x = g .by-at .only a (getD place b 0) low p in
       let u = kind-writes (g .known) (g .kinds) (x .low) (x .writes) in
       record {
         write = u;
@@ -56,7 +57,7 @@ module _ {t : Table} {w n : ℕ} {kind source place at hb race : List ℕ} (g : 
       says-iff (λ (a, (o, p)). (a, write-before a o p))
       (λ (a, x).
       let i = below (g .known) (write-inside (g .known .formed) a (x .write)) in
-      (a, (g .by-hb .all a b l (x .before), g .by-at .all a (getD place b 0) place-low (record { low = i; writes = writes-kind (g .known) (g .kinds) i (x .write); at = one-place (g .known) (g .places) i l (x .one-location) }))))
+      (a, (g .by-hb .all a b l (x .before), g .by-at .all a (getD place b 0) low (record { low = i; writes = writes-kind (g .known) (g .kinds) i (x .write); at = one-place (g .known) (g .places) i l (x .one-location) }))))
 
   -- the column leads from the source
   pub the-source : getD source b 0 < b → Source t (getD source b 0) b
