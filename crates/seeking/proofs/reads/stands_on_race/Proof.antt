@@ -29,8 +29,8 @@ returns-2 : tie.Need-returns-2
 returns-2 c =
     let l = entry (c .before .before .before .before) .pre .0 in
     λ t g.
-        stands-told g l (c .before .before .before .if1 .left) (reads-told g l) (written-told g l (c .before .is-written .ensures))
-        (raced-told g l (c .is-raced .ensures))
+    stands-told g l (c .before .before .before .if1 .left) (reads-told g l) (written-told g l (c .before .is-written .ensures))
+    (raced-told g l (c .is-raced .ensures))
 
 pub stands-on-race-spec : {M : Type 1} → statement M
 stands-on-race-spec = tie.close (tie.spec read-source cast-source returns (λ c. search needs) is-written-requires is-raced-requires returns-2)
