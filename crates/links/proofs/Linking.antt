@@ -1,14 +1,11 @@
 -- What links lead to, and that the link to a parent falls.
 use mathlib.Core.Path.{_≡_, sym, subst, _∙_}
-use mathlib.Core.Bool.{Bool, false}
 use Prim.Native.Nat.{ℕ, _<_}
 use Rattle.events.specs.declared.Link.{Link}
-use Rattle.events.specs.declared.Link.the-variants.{Absent, To}
-use Rattle.laws.specs.Says.{Says}
-use Rattle.laws.proofs.Says.{says-no, says-iff}
+use Rattle.events.specs.declared.Link.the-variants.{To}
 use Rattle.model.specs.Table.{Table, Parent}
 use Rattle.model.specs.WellFormed.{WellFormed}
-use Rattle.model.proofs.Fields.{absent-to, one-end}
+use Rattle.model.proofs.Fields.{one-end}
 use Rattle.model.proofs.Facts.{parent-earlier}
 use Rattle.links.specs.Links.{Linked, Leads}
 
@@ -18,12 +15,6 @@ module _ {link : Link} {P : ℕ → Type 0} where
 
   pub of-linked : {s : ℕ} → link ≡ To s → Linked link P → P s
   of-linked e l = subst P (one-end e (l .is)) (l .has)
-
-  pub says-linked : {s : ℕ} {r : Bool} → link ≡ To s → Says r (P s) → Says r (Linked link P)
-  says-linked e = says-iff (to-linked e) (of-linked e)
-
-  pub says-linked-none : link ≡ Absent → Says false (Linked link P)
-  says-linked-none e = says-no (λ l. absent-to e (l .is))
 
 -- the link leads to numbers below k only
 pub record Falls (link : Link) (k : ℕ) : Type 0 where
