@@ -3,7 +3,6 @@
 pub mod agreement;
 pub mod judges;
 pub mod native;
-pub mod parts;
 pub mod plain;
 mod plain_cycle;
 mod plain_matrix;

@@ -16,7 +16,7 @@ use Rattle.model.specs.Relations.{Po, by-po, Hb}
 use Rattle.model.specs.WellFormed.{WellFormed}
 use Rattle.model.proofs.Laws.{hb-iff-last}
 use Rattle.model.proofs.Within.{hb-rises}
-use Rattle.precedence.specs.Links.{Leads}
+use Rattle.links.specs.Links.{Leads}
 use Rattle.model.proofs.Fields.{absent-to, one-end}
 use Rattle.asking.specs.LastStep.{LastBy, ByPo, BySw}
 

@@ -10,7 +10,7 @@ ghost use Rattle.model.specs.Table.{Parent};
 ghost use Rattle.model.specs.Relations.{Sw, Hb};
 ghost use Rattle.table.specs.Events.{eventsOf};
 ghost use Rattle.facts.specs.Sound.{One};
-ghost use Rattle.precedence.specs.Links.{Leads};
+ghost use Rattle.links.specs.Links.{Leads};
 ghost use Rattle.asking.specs.LastStep.{ByPo, BySw, AskedLast};
 
 // The record of which a last step of po to b comes: its parent.

@@ -14,9 +14,9 @@ use Rattle.model.specs.WellFormed.{WellFormed}
 use Rattle.model.proofs.Facts.{one-parent, parent-earlier, thread-of-parent}
 use Rattle.model.proofs.Laws.{conflict-below, po-iff-parent}
 use Rattle.model.proofs.Within.{po-rises, po-within, above-within}
-use Rattle.precedence.specs.Arms.{Arms}
-use Rattle.precedence.specs.Links.{Linked}
-use Rattle.precedence.proofs.Branches.{not-between, arms-apart, not-init, parent-within, apart-conflict, ByBranch, conflict-iff-branch}
+use Rattle.links.specs.Arms.{Arms}
+use Rattle.links.specs.Links.{Linked}
+use Rattle.links.proofs.Branches.{not-between, arms-apart, not-init, parent-within, apart-conflict, ByBranch, conflict-iff-branch}
 use Rattle.columns.specs.Columns.{parentNumber, armNumber, Column, Known}
 use Rattle.columns.proofs.Facts.{inside, below, led-by-arm, arm-leads}
 use Rattle.columns.proofs.Before.{star-told, told-star}

@@ -13,7 +13,7 @@ use Rattle.model.specs.Table.{Table, Inside, Parent}
 use Rattle.model.specs.Relations.{Po, AtOrAbove, equal, above, Sw, PoOrSw, by-po, by-sw, Hb}
 use Rattle.model.proofs.Facts.{parent-earlier, source-is-earlier-write}
 use Rattle.model.proofs.Within.{po-rises, po-within}
-use Rattle.columns.specs.Columns.{noNumber, parentNumber, syncNumber, Column, Known}
+use Rattle.columns.specs.Columns.{parentNumber, syncNumber, Column, Known}
 use Rattle.columns.proofs.Facts.{inside, below, led-by-parent, parent-leads, led-by-sync, sync-leads}
 
 -- steps that rise, each told of numbers below n by others
@@ -24,14 +24,6 @@ plus-below {n} rises f {a} {b} l (more {m = m} p r) =
     let h = rises m b r in
     let k : m < n = omega arith in
     more (plus-below rises f k p) (f m b l r)
-
--- nothing, and then R
-module _ {R : Rel} {a b : ℕ} where
-  pub same-then : Then _≡_ R a b → R a b
-  same-then t = subst (λ (z : ℕ). R z b) (sym (t .first)) (t .next)
-
-  pub then-same : R a b → Then _≡_ R a b
-  then-same r = record { mid = a; first = refl; next = r }
 
 leads-rises : {c : List ℕ} (a b : ℕ) → Leads c a b → a < b
 leads-rises a b x = x .falls
@@ -52,18 +44,6 @@ module _ {t : Table} {n : ℕ} (k : Known t n) {parent : List ℕ} (p : Column n
   pub told-star : {a b : ℕ} → b < n → AtOrAbove t a b → Star (Leads parent) a b
   told-star l (equal i) = here
   told-star l (above u) = on (told-po l u)
-
-  -- a second column that leads nowhere adds nothing
-  module _ {nowhere : List ℕ} (q : Column n (λ b. noNumber) nowhere) where
-    only-first : (a b : ℕ) → b < n → ByEither parent nowhere a b → Leads parent a b
-    only-first a b l (by-first x) = x
-    only-first a b l (by-second x) = let e = q .says b l in absurd (omega (arith, e, x .is, x .falls, k .few))
-
-    pub po-of : {a b : ℕ} → b < n → Then _≡_ (Plus (ByEither parent nowhere)) a b → Po t a b
-    po-of l x = po-told l (plus-below (λ a b. either-rises) only-first l (same-then x))
-
-    pub of-po : {a b : ℕ} → b < n → Po t a b → Then _≡_ (Plus (ByEither parent nowhere)) a b
-    of-po l u = then-same (plus-below leads-rises (λ a b l. by-first) l (told-po l u))
 
   -- ---- hb
 

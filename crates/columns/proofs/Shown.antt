@@ -11,7 +11,6 @@ use Rattle.pairs.specs.Tokens.{TwoTaken}
 use Rattle.model.specs.Table.{Table, Source, Write}
 use Rattle.model.specs.Relations.{Hb, Conflict, EarlierRace}
 use Rattle.model.specs.Findings.{ShowsA2, ShowsA3, ShowsA5, ShowsW}
-use Rattle.model.proofs.Facts.{one-source}
 use Rattle.model.proofs.Within.{source-within}
 use Rattle.columns.specs.Columns.{sourceNumber, kindNumber, Column, Known}
 use Rattle.columns.proofs.Facts.{inside, below, led-by-source, source-leads, kind-writes, writes-kind, kind-updates, updates-kind}
@@ -20,10 +19,6 @@ use Rattle.columns.proofs.Apart.{AndConflict}
 -- a is a reader of s
 abbrev pub ReaderOf : Table → Rel
 ReaderOf t a s = Source t s a
-
--- each reader has one source
-pub one-partner : (t : Table) (a v u : ℕ) → ReaderOf t a v → ReaderOf t a u → v ≡ u
-one-partner t a v u x y = one-source t x y
 
 module _ {t : Table} {n : ℕ} (k : Known t n) where
   module _ {source : List ℕ} (s : Column n (sourceNumber t) source) {p q : ℕ} (l : q < n) where

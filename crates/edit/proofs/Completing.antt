@@ -16,7 +16,7 @@ use Rattle.model.specs.Cut.{Complete}
 use Rattle.model.proofs.Facts.{parent-earlier}
 use Rattle.table.specs.Events.{eventsOf}
 use Rattle.facts.proofs.Records.{formed}
-use Rattle.relations.proofs.Telling as told
+use Rattle.links.proofs.Sourced as told
 use Rattle.edit.specs.Columns.{Judging}
 use Rattle.edit.specs.Cut.{RaceKept, Lacking}
 

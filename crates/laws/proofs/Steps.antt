@@ -72,9 +72,3 @@ pub plus-last : {R : ℕ → ℕ → Type 0} {a b : ℕ} → Plus R a b → Last
 plus-last {a = a} (one r) = record { from = a; step = r; rest = inl refl }
 plus-last (more {m = m} p r) = record { from = m; step = r; rest = inr p }
 
-pub last-plus : {R : ℕ → ℕ → Type 0} {a b : ℕ} → LastStep R a b → Plus R a b
-last-plus {R} {a} {b} l = go (l .rest)
-  where
-    go : (a ≡ l .from) ⊎ Plus R a (l .from) → Plus R a b
-    go (inl e) = subst (λ (z : ℕ). Plus R z b) (sym e) (one (l .step))
-    go (inr p) = more p (l .step)

@@ -14,7 +14,7 @@ ghost use Rattle.model.specs.Relations.{Conflict};
 ghost use Rattle.model.specs.Findings.{ShowsA2, ShowsA3, ShowsA5, ShowsW, Shows};
 ghost use Rattle.table.specs.Events.{eventsOf};
 ghost use Rattle.facts.specs.Sound.{One, Two};
-ghost use Rattle.relations.specs.Between.{FromSource};
+ghost use Rattle.links.specs.Sourced.{FromSource};
 
 // A2: "p conflicts with q and p hb q"
 fn conflict_before(table: &[u8], p: usize, q: usize) -> bool

@@ -8,7 +8,7 @@ use Rattle.asking.proofs.before.po_source.Reads as po-source-reads
 use Rattle.asking.proofs.before.sw_source.Reads as sw-source-reads
 use Rattle.asking.proofs.tree.ancestor.Reads as ancestor-reads
 use Rattle.laws.proofs.Says.{said, denied}
-use Rattle.precedence.proofs.Sources.{sw-falls}
+use Rattle.links.proofs.Sources.{sw-falls}
 use Rattle.model.proofs.Facts.{parent-earlier}
 use Rattle.asking.proofs.LastSteps.{last-none, last-here, last-on, last-above, hb-by-po, hb-by-sw}
 use Rattle.asking.proofs.before.by_po_step.Reads as by-po-step

@@ -1,7 +1,7 @@
 -- `before::po_source` meets its contract: the link to the parent leads to it.
 use borrow.Author.Needs.{needs}
 use Rattle.table.specs.Events.{eventsOf}
-use Rattle.precedence.proofs.Linking.{parent-leads}
+use Rattle.links.proofs.Linking.{parent-leads}
 use Rattle.asking.proofs.before.po_source.Statement.{statement}
 use Rattle.asking.proofs.before.po_source.Tie as tie
 

@@ -2,7 +2,7 @@
 use native.Mathlib.Omega.{arith}
 use borrow.Author.Needs.{needs}
 use Rattle.laws.proofs.Says.{said, denied, says-and, says-is}
-use Rattle.precedence.proofs.Sources.{source-falls, sw-none, sw-from, sw-not-from}
+use Rattle.links.proofs.Sources.{source-falls, sw-none, sw-from, sw-not-from}
 use Rattle.asking.proofs.before.sw_source.Statement.{statement}
 use Rattle.asking.proofs.before.sw_source.Tie as tie
 

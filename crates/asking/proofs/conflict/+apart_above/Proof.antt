@@ -8,7 +8,7 @@ use Rattle.facts.proofs.Records.{second-of}
 use Rattle.facts.proofs.parent.Reads as parent-reads
 use Rattle.asking.proofs.conflict.apart.Reads as ask-reads
 use Rattle.laws.proofs.Says.{said, denied}
-use Rattle.precedence.proofs.Linking.{parent-falls}
+use Rattle.links.proofs.Linking.{parent-falls}
 use Rattle.asking.proofs.Climbing.{climb-here, climb-ends, climb-on}
 use Rattle.asking.proofs.conflict.apart_above.Reads as apart-above
 use Rattle.asking.proofs.conflict.apart_above.Kinds as kinds

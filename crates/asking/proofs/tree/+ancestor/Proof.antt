@@ -6,8 +6,8 @@ use borrow.Fn.Kinds.{In}
 use borrow.Fn.PlainCycle.{Measures, is, falls, and}
 use Rattle.table.specs.Events.{eventsOf}
 use Rattle.facts.proofs.parent.Reads as parent-reads
-use Rattle.precedence.proofs.Linking.{parent-falls}
-use Rattle.precedence.proofs.Climbs.{climb-none, climb-found, climb-on}
+use Rattle.links.proofs.Linking.{parent-falls}
+use Rattle.links.proofs.Climbs.{climb-none, climb-found, climb-on}
 use Rattle.asking.proofs.tree.ancestor.Reads as ancestor
 use Rattle.asking.proofs.tree.ancestor.Kinds as kinds
 use Rattle.asking.proofs.tree.+ancestor.Lts-ancestor as lts

@@ -8,7 +8,7 @@ use Rattle.laws.proofs.Says.{says-is, says-and}
 use Rattle.selections.specs.Selection.{named}
 use Rattle.model.specs.Relations.{EarlierRace}
 use Rattle.table.specs.Events.{eventsOf}
-use Rattle.shown.proofs.Seeking.{some-none, some-more, some-all}
+use Rattle.links.proofs.Seeking.{some-none, some-more, some-all}
 use Rattle.edit.proofs.completeness.any_kept.Statement.{statement}
 use Rattle.edit.proofs.completeness.any_kept.Tie as tie
 

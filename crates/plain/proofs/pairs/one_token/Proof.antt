@@ -2,8 +2,8 @@
 use mathlib.Core.Path.{refl, sym, _∙_}
 use borrow.Author.Needs.{needs}
 use Rattle.laws.proofs.Says.{says-is, says-lt, says-not, says-and}
-use Rattle.relations.proofs.Telling.{the-source, says-by-source, says-no-source}
-use Rattle.shown.proofs.Showing.{says-A5}
+use Rattle.links.proofs.Sourced.{the-source, says-by-source, says-no-source}
+use Rattle.links.proofs.Showing.{says-A5}
 use Rattle.plain.proofs.pairs.one_token.Statement.{statement}
 use Rattle.plain.proofs.pairs.one_token.Tie as tie
 

@@ -1,8 +1,8 @@
 -- `pairs::reads_from` meets its contract: the link of the record's source tells it.
 use mathlib.Core.Path.{refl, sym, _∙_}
 use borrow.Author.Needs.{needs}
-use Rattle.relations.proofs.Telling.{the-source}
-use Rattle.shown.proofs.Showing.{says-the-source, says-never-source}
+use Rattle.links.proofs.Sourced.{the-source}
+use Rattle.links.proofs.Showing.{says-the-source, says-never-source}
 use Rattle.plain.proofs.pairs.reads_from.Statement.{statement}
 use Rattle.plain.proofs.pairs.reads_from.Tie as tie
 

@@ -1,7 +1,7 @@
 -- `pairs::shows_pair` meets its contract: each arm asks the function of its finding, and a pair is no record and no cycle.
 use borrow.Author.Needs.{needs}
 use Rattle.laws.proofs.Says.{says-no}
-use Rattle.shown.proofs.Showing.{no-record, no-cycle, says-pair}
+use Rattle.links.proofs.Showing.{no-record, no-cycle, says-pair}
 use Rattle.plain.proofs.pairs.shows_pair.Statement.{statement}
 use Rattle.plain.proofs.pairs.shows_pair.Tie as tie
 

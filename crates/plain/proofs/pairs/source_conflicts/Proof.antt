@@ -1,7 +1,7 @@
 -- `pairs::source_conflicts` meets its contract: the link of the source tells it.
 use mathlib.Core.Path.{refl, sym, _∙_}
 use borrow.Author.Needs.{needs}
-use Rattle.relations.proofs.Telling.{the-source, source-low, says-by-source, says-no-source}
+use Rattle.links.proofs.Sourced.{the-source, source-low, says-by-source, says-no-source}
 use Rattle.plain.proofs.pairs.source_conflicts.Statement.{statement}
 use Rattle.plain.proofs.pairs.source_conflicts.Tie as tie
 

@@ -2,8 +2,8 @@
 use mathlib.Core.Path.{refl, sym, _∙_}
 use borrow.Author.Needs.{needs}
 use Rattle.laws.proofs.Says.{says-and}
-use Rattle.relations.proofs.Telling.{the-source, source-low, says-by-source, says-no-source}
-use Rattle.shown.proofs.Showing.{says-A3}
+use Rattle.links.proofs.Sourced.{the-source, source-low, says-by-source, says-no-source}
+use Rattle.links.proofs.Showing.{says-A3}
 use Rattle.plain.proofs.pairs.sources_conflict.Statement.{statement}
 use Rattle.plain.proofs.pairs.sources_conflict.Tie as tie
 

@@ -1,8 +1,8 @@
 -- `reads::justified` meets its contract: the link of the source tells which case it is.
 use mathlib.Core.Path.{sym, _∙_}
 use borrow.Author.Needs.{needs}
-use Rattle.relations.proofs.Telling.{the-source}
-use Rattle.shown.proofs.Reading.{says-justified, says-justified-without}
+use Rattle.links.proofs.Sourced.{the-source}
+use Rattle.links.proofs.Reading.{says-justified, says-justified-without}
 use Rattle.plain.proofs.reads.justified.Statement.{statement}
 use Rattle.plain.proofs.reads.justified.Tie as tie
 

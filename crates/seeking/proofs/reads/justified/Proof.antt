@@ -3,7 +3,7 @@ use native.Mathlib.Omega.{arith}
 use borrow.Author.Needs.{needs}
 use Rattle.laws.proofs.Says.{says-iff}
 use Rattle.rows.proofs.Rows.{room-row}
-use Rattle.shown.proofs.Reading.{says-justified, says-justified-without}
+use Rattle.links.proofs.Reading.{says-justified, says-justified-without}
 use Rattle.seeking.proofs.Reading.{raced-told, written-told, the-source, no-source}
 use Rattle.seeking.proofs.reads.justified.Statement.{statement}
 use Rattle.seeking.proofs.reads.justified.Tie as tie

@@ -1,2 +1,0 @@
--- What the questions on reads ask and promise.
-pub mod Reads
