@@ -1,51 +1,53 @@
--- What answers on a kept record tell: whether it lacks its parent, its source or its racing write.
-use mathlib.Core.Path.{_≡_, sym, _∙_}
+-- What columns and rows tell of a kept record: whether it lacks its parent, its source or its racing write.
 use mathlib.Core.Bool.{Bool, not, _&&_}
 use mathlib.Core.List.{List}
-use Prim.Native.Nat.{ℕ, _*_, _<_}
+use Prim.Native.Nat.{ℕ, _<_}
 use native.Mathlib.Omega.{arith}
 use lib.Dec.{T}
-use lib.ListN.{length}
-use Rattle.events.specs.declared.Link.{Link}
-use Rattle.events.specs.declared.Link.the-variants.{To}
 use Rattle.laws.specs.Says.{Says}
 use Rattle.laws.proofs.Says.{says-not, says-and, says-iff}
 use Rattle.selections.specs.Selection.{named}
+use Rattle.model.specs.Table.{Table}
 use Rattle.model.specs.Relations.{StandsOnRace}
 use Rattle.model.specs.Cut.{Complete}
-use Rattle.model.proofs.Facts.{parent-earlier}
-use Rattle.table.specs.Events.{eventsOf}
-use Rattle.facts.proofs.Records.{formed}
-use Rattle.links.proofs.Sourced as told
+use Rattle.rows.specs.Rows.{On}
+use Rattle.rows.specs.Steps.{Leads}
+use Rattle.columns.proofs.Facts.{inside, led-by-parent, parent-leads, led-by-source, source-leads}
+use Rattle.seeking.specs.Reads.{Reading}
 use Rattle.edit.specs.Columns.{Judging}
 use Rattle.edit.specs.Cut.{RaceKept, Lacking}
 
--- record n of the table b, and the selection s
-module _ {b s hb race : List ℕ} {count n : ℕ} (j : Judging b count s hb race) (h : n < count) where
-  module _ {link : Link} (is : link ≡ eventsOf b .at n .parent) where
-    pub parent-low : (p : ℕ) → link ≡ To p → p < 8 * length s
-    parent-low p e = omega (arith, parent-earlier (formed (j .table)) p n (sym is ∙ e), j .bits)
+-- record b of the table t, and the selection s
+module _ (s : List ℕ) {t : Table} {w n b : ℕ} {kind source place at hb race : List ℕ} (l : b < n) where
+  pub race-kept-told :
+      {r : Bool} → Reading t w n kind source place at hb race → Says r ((a : ℕ) × ((a < n) × (T (named s a) × On w race a b)))
+      → Says r (RaceKept (named s) t b)
+  race-kept-told g =
+      says-iff (λ (a, (_, (k, o))). (a, (k, g .by-race .only a b l o)))
+      (λ (a, (k, e)). (a, (omega (arith, e .earlier, l), (k, g .by-race .all a b l e))))
 
-  module _ {link : Link} (is : link ≡ eventsOf b .at n .source) where
-    pub source-low : (p : ℕ) → link ≡ To p → p < 8 * length s
-    source-low p e = omega (arith, told.source-low n (j .table) is e, j .bits)
-
-  module _ {parent source : Link} {x y z w : Bool}
-      (is-parent : parent ≡ eventsOf b .at n .parent)
-      (is-source : source ≡ eventsOf b .at n .source)
-      (by-parent : Says x ((p : ℕ) → parent ≡ To p → T (named s p)))
-      (by-source : Says y ((p : ℕ) → source ≡ To p → T (named s p)))
-      (by-race : Says z (StandsOnRace (eventsOf b) n → RaceKept (named s) (eventsOf b) n))
-      (by-name : Says w (T (named s n)))
+  module _ {parent : List ℕ} (j : Judging t w n parent kind source place at hb race) {x y z k : Bool}
+      (by-parent : Says x ((a : ℕ) → Leads parent a b → T (named s a)))
+      (by-source : Says y ((a : ℕ) → Leads source a b → T (named s a)))
+      (by-race : Says z (StandsOnRace t b → RaceKept (named s) t b))
+      (by-name : Says k (T (named s b)))
     where
-      complete-told : Says ((x && y) && z) (Complete (named s) (eventsOf b) n)
+      complete-told : Says ((x && y) && z) (Complete (named s) t b)
       complete-told =
+          let known = j .reading .known in
           says-iff
-          (λ ((x, y), z). record { parent = λ p e. x p (is-parent ∙ e); source = λ p c. y p (is-source ∙ c .is); racing-write = z })
-          (λ c. ((λ p e. c .parent p (sym is-parent ∙ e), λ p e. c .source p (told.the-source n (j .table) is-source e)), c .racing-write))
+          (λ ((x, y), z). record {
+            parent = λ p e. x p (parent-leads known (j .parents) l e);
+            source = λ p c. y p (source-leads known (j .reading .sources) l c);
+            racing-write = z;
+          })
+          (λ c. (
+            (λ p x. c .parent p (led-by-parent known (j .parents) l x), λ p x. c .source p (led-by-source known (j .reading .sources) l x)),
+            c .racing-write,
+          ))
           (says-and (says-and by-parent by-source) by-race)
 
-      pub lacking-told : Says (w && not ((x && y) && z)) (Lacking (named s) (eventsOf b) n)
+      pub lacking-told : Says (k && not ((x && y) && z)) (Lacking (named s) t b)
       lacking-told =
-          says-iff (λ (is, not). record { inside = omega (arith, j .table .all); kept = is; incomplete = not }) (λ l. (l .kept, l .incomplete))
+          says-iff (λ (is, not). record { inside = inside (j .reading .known) l; kept = is; incomplete = not }) (λ x. (x .kept, x .incomplete))
           (says-and by-name (says-not complete-told))

@@ -7,6 +7,7 @@ pub mod KeptBytes
 pub mod RecordLinks
 pub mod WritingOut
 pub mod Completing
+pub mod Lending
 pub mod Answering
 pub mod OneCut
 pub mod Relinked

@@ -1,4 +1,4 @@
--- What the functions of a cut hand each other: the matrices that tell of racing writes, the column of new numbers, what is written.
+-- What the functions of a cut hand each other: the columns and rows that tell what is lacking, the column of new numbers, what is written.
 use mathlib.Core.Path.{_≡_}
 use mathlib.Core.Bool.{Bool}
 use mathlib.Core.List.{List}
@@ -8,22 +8,36 @@ use lib.ListN.{length, getD}
 use Rattle.limits.specs.Limit.{limit}
 use Rattle.selections.specs.Selection.{named}
 use Rattle.record.specs.Form.{recordSize, parentByte, sourceByte, part}
-use Rattle.model.specs.Relations.{Hb, Race}
+use Rattle.model.specs.Table.{Table}
 use Rattle.model.specs.Cut.{newNumber}
-use Rattle.table.specs.Events.{eventsOf}
 use Rattle.facts.specs.Sound.{Counted}
-use Rattle.relations.specs.Given.{Given}
+use Rattle.combined.specs.Columns.{Placed}
+use Rattle.columns.specs.Columns.{parentNumber, Column}
+use Rattle.columns.specs.Codes.{Lent}
+use Rattle.seeking.specs.Reads.{ReadRoom, Reading}
 use Rattle.edit.specs.declared.completeness.Lack.{Lack}
 use Rattle.edit.specs.declared.completeness.Lack.the-variants.{Nothing, Record}
 
 -- ---- what is lacking
 
--- a selection that has a bit for each record, and the matrices that tell of racing writes
-pub record Judging (b : List ℕ) (count : ℕ) (s hb race : List ℕ) : Type 0 where
-  pub table : Counted b count
-  pub bits : count ≤ 8 * length s
-  pub by-hb : Given count (Hb (eventsOf b)) hb
-  pub by-race : Given count (Race (eventsOf b)) race
+-- all columns of n records, and a selection that has a bit for each
+pub record ColumnsRoom (n : ℕ) (parent arm source sync place kind order s : List ℕ) : Type 0 where
+  pub few : n ≤ limit
+  pub lent : Lent n parent arm source sync place kind order
+  pub placed : Placed n place
+  pub bits : n ≤ 8 * length s
+
+-- columns and rows of n records, and such a selection
+pub record JudgingRoom (w n : ℕ) (parent kind source place at hb race s : List ℕ) : Type 0 where
+  pub parents : n ≤ length parent
+  pub kinds : n ≤ length kind
+  pub reads : ReadRoom w n source place at hb race
+  pub bits : n ≤ 8 * length s
+
+-- they are those of the table t
+pub record Judging (t : Table) (w n : ℕ) (parent kind source place at hb race : List ℕ) : Type 0 where
+  pub parents : Column n (parentNumber t) parent
+  pub reading : Reading t w n kind source place at hb race
 
 -- the least record that lacks something, if one does
 abbrev pub lackOf : Lack → Option ℕ

@@ -1,49 +1,48 @@
--- `completeness::any_kept` meets its contract: the numbers below w have been asked, and no other races earlier.
-use mathlib.Core.Path.{_≡_}
-use Prim.Native.Nat.{ℕ, _-_, _<_, _≤_}
+-- `completeness::any_kept` meets its contract: no number of the row below a is kept.
+use Prim.Native.Nat.{ℕ, _-_, _*_, _<_}
 use native.Mathlib.Omega.{arith}
 use lib.Dec.{T}
-use Rattle.laws.specs.Says.{Says}
-use Rattle.laws.proofs.Says.{says-is, says-and}
+use Rattle.laws.proofs.Says.{said, denied, says-is, says-yes, says-no}
+use Rattle.rows.specs.Rows.{On}
+use Rattle.rows.proofs.Along.{along-none, along-more}
+use Rattle.rows.proofs.Rows.{room-row}
 use Rattle.selections.specs.Selection.{named}
-use Rattle.model.specs.Relations.{EarlierRace}
-use Rattle.table.specs.Events.{eventsOf}
-use Rattle.links.proofs.Seeking.{some-none, some-more, some-all}
 use Rattle.edit.proofs.completeness.any_kept.Statement.{statement}
 use Rattle.edit.proofs.completeness.any_kept.Tie as tie
 
 abbrev Inv-loop : tie.InvT-loop
-Inv-loop table selection race count n found₀ w₀ found w =
-    (w ≤ count) × Says found ((i : ℕ) × ((i < w) × (T (named selection i) × EarlierRace (eventsOf table) i n)))
+Inv-loop selection race w n b a₀ a = ((i : ℕ) → i < a → On w race i b → ¬ T (named selection i)) × (a < 64 * w → On w race a b)
 
 abbrev μ-loop : tie.MeasureT-loop
-μ-loop table selection race count n found₀ w₀ found w = count - w
+μ-loop selection race w n b a₀ a = n - a
+
+next-requires : tie.Need-next-requires Inv-loop μ-loop
+next-requires c κs = let p = c .before .before .pre in (room-row (p .2) _ (p .0), omega arith)
+
+loop-holds : tie.Need-loop-holds Inv-loop μ-loop
+loop-holds c = let f = c .next .ensures in (along-none _ f, f .on)
 
 names-requires : tie.Need-names-requires Inv-loop μ-loop
-names-requires c κs =
-    let (counted, given, bits, h) = c .before .before .before .before .before .pre in
-    omega arith
-
-races-earlier-requires : tie.Need-races-earlier-requires Inv-loop μ-loop
-races-earlier-requires c κs =
-    let entry = c .before .before .before .before .before .before in
-    let (counted, given, bits, h) = entry .pre in
-    (record { table = counted; col = omega arith; row = h }, given)
-
-loop-again : tie.Need-loop-again Inv-loop μ-loop
-loop-again c =
-    let l = c .before .before .before in
-    (omega arith, some-more (l .loop .inv .1) (says-and (says-is (c .before .names .ensures)) (c .races-earlier .ensures)))
+names-requires c κs = let p = c .before .before .before .before .before .pre in omega (arith, c .loop-test .taken, p .1)
 
 returns : tie.Need-returns Inv-loop μ-loop
 returns c =
-    let loop = c .before in
-    let entry = loop .before .before .before .before in
-    let (counted, given, bits, h) = entry .pre in
-    let e : loop .loop .w ≡ entry .args .count = omega arith in
-    some-all (λ i (k, z). omega (arith, z .earlier, h)) (rw e at (loop .loop .inv .1))
+    let low = c .before .before .loop-test .taken in
+    let p = c .before .before .before .before .before .before .before .pre in
+    says-yes (_, (low, (said (says-is (c .before .names .ensures)) (c .if1 .taken), c .before .before .before .loop .inv .1 (omega (arith, low, p .2 .wide)))))
+
+next-requires-2 : tie.Need-next-requires-2 Inv-loop μ-loop
+next-requires-2 c κs = let p = c .before .before .before .before .before .before .before .pre in (room-row (p .2) _ (p .0), omega (arith, p .2 .wide))
+
+loop-again : tie.Need-loop-again Inv-loop μ-loop
+loop-again c =
+    let f = c .next2 .ensures in
+    (along-more _ (c .before .before .before .before .loop .inv .0) (λ o. denied (says-is (c .before .before .names .ensures)) (c .before .if1 .left)) f, f .on)
+
+returns-2 : tie.Need-returns-2 Inv-loop μ-loop
+returns-2 c = says-no (λ (a, (l, (k, o))). c .before .loop .inv .0 a (omega arith) o k)
 
 pub any-kept-spec : {M : Type 1} → statement M
 any-kept-spec =
     tie.close
-    (tie.spec Inv-loop μ-loop (λ c. (omega arith, some-none)) names-requires races-earlier-requires (λ c. omega arith) (λ c. omega arith) loop-again returns)
+    (tie.spec Inv-loop μ-loop next-requires loop-holds names-requires returns (λ c. omega arith) next-requires-2 (λ c. omega (arith, c .next2 .ensures .low)) loop-again returns-2)

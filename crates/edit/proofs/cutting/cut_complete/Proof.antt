@@ -15,48 +15,52 @@ use Rattle.edit.proofs.cutting.cut_complete.Statement.{statement}
 use Rattle.edit.proofs.cutting.cut_complete.Tie as tie
 
 sound : (entry : tie.Start) → Counted (now (entry .args .table)) (entry .args .count)
-sound entry = counted (now (entry .args .table)) (entry .args .count) (entry .pre .selected .sound)
+sound entry = counted (now (entry .args .table)) (entry .args .count) (entry .pre .0 .selected .sound)
 
 bits : (entry : tie.Start) → entry .args .count ≤ 8 * length (now (entry .args .selection))
-bits entry = bit-for-each (entry .pre .selected .not-9) (few (sound entry))
+bits entry = bit-for-each (entry .pre .0 .selected .not-9) (few (sound entry))
+
+abbrev entry : tie.After-number-arg → tie.Start
+entry c = c .before .before .before .before .before
+
+-- back to where the numbers are given
+abbrev given : tie.After-slice-known3 → tie.After-number
+given c = c .before .before
 
 number-requires : tie.Need-number-requires
-number-requires c κs =
-    let entry = c .before .before .before .before in
-    record { few = few (sound entry); bits = bits entry; room = few (sound entry) }
+number-requires c κs = record { few = few (sound (entry c)); bits = bits (entry c); room = omega (arith, few (sound (entry c)), entry c .pre .1) }
 
 mul-if1 : tie.Need-mul-if1
 mul-if1 c =
-    let entry = c .before .before .before .before .before .before in
-    omega (arith, c .before .number .ensures .next, new-at-most (named (now (entry .args .selection))) (entry .args .count), few (sound entry))
+    let start = entry (given c .before) in
+    omega (arith, given c .number .ensures .next, new-at-most (named (now (start .args .selection))) (start .args .count), few (sound start))
 
 write-kept-requires : tie.Need-write-kept-requires
 write-kept-requires c κs =
-    let numbered = c .before .before .before .before in
-    let entry = numbered .before .before .before .before .before in
+    let tested = c .before .before in
+    let numbered = given (tested .before) in
+    let start = entry (numbered .before) in
     record {
-      table = sound entry;
-      bits = bits entry;
+      table = sound start;
+      bits = bits start;
       numbered = numbered .number .ensures .each;
-      column = omega (arith, few (sound entry));
-      room = omega (arith, c .before .before .if1 .taken, numbered .number .ensures .next);
+      column = omega (arith, few (sound start), start .pre .1, numbered .number .kept .1 .1 .0);
+      room = omega (arith, tested .if1 .taken, numbered .number .ensures .next);
     }
 
 returns : tie.Need-returns
 returns c =
     let written = c .before .before in
     let tested = written .before .before .before in
-    let numbered = tested .before .before in
-    let entry = numbered .before .before .before .before .before in
-    kept-answer (entry .pre) (numbered .number .ensures .next) (tested .if1 .taken) (written .write-kept .ensures)
+    let numbered = given (tested .before) in
+    kept-answer (entry (numbered .before) .pre .0) (numbered .number .ensures .next) (tested .if1 .taken) (written .write-kept .ensures)
 
 returns-2 : tie.Need-returns-2
 returns-2 c =
-    let numbered = c .before .before in
-    let entry = numbered .before .before .before .before .before in
-    no-room-answer (entry .pre) (numbered .number .ensures .next) (c .if1 .left)
+    let numbered = given (c .before) in
+    no-room-answer (entry (numbered .before) .pre .0) (numbered .number .ensures .next) (c .if1 .left)
 
 pub cut-complete-spec : {M : Type 1} → statement M
 cut-complete-spec =
     tie.close
-    (tie.spec (search needs) number-requires mul-if1 (search needs) write-kept-requires (search needs) returns returns-2)
+    (tie.spec number-requires mul-if1 write-kept-requires (λ c. search needs) (λ c. search needs) returns (λ c. search needs) returns-2)
