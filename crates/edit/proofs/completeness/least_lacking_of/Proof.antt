@@ -40,7 +40,6 @@ laid c = c .before .before .before .before .before .before .before .before .befo
 least-lacking-by-requires : tie.Need-least-lacking-by-requires
 least-lacking-by-requires c κs =
     let pre = entry (laid c .before) .pre in
-    let kept = laid c .lay .kept in
     record {
       parents = pre .lent .for-parent;
       kinds = pre .lent .for-kind;
