@@ -1,9 +1,9 @@
--- Columns from bytes and from other columns.
+-- Columns from bytes.
 use mathlib.Core.Bool.{Bool, true, false, _&&_, _||_}
 use mathlib.Core.List.{List}
 use Prim.Native.Nat.{ℕ, _≤_}
 use lib.Dec.{eqb, ltb, leb}
-use lib.ListN.{length, getD}
+use lib.ListN.{length}
 use Rattle.record.specs.Form.{pick}
 use Rattle.columns.specs.Columns.{noNumber, noPlace}
 
@@ -16,9 +16,9 @@ armFrom kind parent = pick (eqb kind 0) noNumber parent
 abbrev pub acquiresCode : ℕ → Bool
 acquiresCode order = eqb order 1 || leb 3 order
 
-abbrev pub syncFrom : List ℕ → List ℕ → ℕ → ℕ
-syncFrom source order b =
-    pick (ltb (getD source b 0) b) (pick (acquiresCode (getD order b 0) && leb 2 (getD order (getD source b 0) 0)) (getD source b 0) noNumber) noNumber
+-- of record b with this source and order, where the source has the order o
+abbrev pub syncFrom : ℕ → ℕ → ℕ → ℕ → ℕ
+syncFrom b source order o = pick (ltb source b) (pick (acquiresCode order && leb 2 o) source noNumber) noNumber
 
 -- room for the columns of n records
 pub record Lent (n : ℕ) (parent arm source sync place kind order : List ℕ) : Type 0 where

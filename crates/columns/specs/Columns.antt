@@ -10,6 +10,7 @@ use Rattle.events.specs.declared.Event.{Event}
 use Rattle.events.specs.declared.Event.the-variants.{Init, Load, Store, Update}
 use Rattle.events.specs.Words.{isInit, orderOf, codeOf, acquires, releases}
 use Rattle.limits.specs.Limit.{limit}
+use Rattle.rows.specs.Rows.{Outside}
 use Rattle.model.specs.Table.{Table}
 use Rattle.model.specs.WellFormed.{WellFormed}
 
@@ -101,3 +102,13 @@ pub record Columns (t : Table) (n : ℕ) (parent arm source sync place kind orde
   pub places : Column n (placeNumber t) place
   pub kinds : Column n (kindNumber t) kind
   pub orders : Column n (orderNumber t) order
+
+-- and past the first n entries they are as they were
+pub record Rest (n : ℕ) (parent arm source sync place kind order parent′ arm′ source′ sync′ place′ kind′ order′ : List ℕ) : Type 0 where
+  pub of-parent : Outside 0 n parent parent′
+  pub of-arm : Outside 0 n arm arm′
+  pub of-source : Outside 0 n source source′
+  pub of-sync : Outside 0 n sync sync′
+  pub of-place : Outside 0 n place place′
+  pub of-kind : Outside 0 n kind kind′
+  pub of-order : Outside 0 n order order′

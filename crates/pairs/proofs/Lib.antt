@@ -1,2 +1,3 @@
 -- Laws of the pairs that are asked for.
 pub mod Taking
+pub mod Seen

@@ -13,6 +13,15 @@ pub record Taken (n : ℕ) (kind source : List ℕ) (p s : ℕ) : Type 0 where
   pub takes : getD kind p 0 ≡ 3
   pub from : Leads source s p
 
+-- two of the numbers below n took from one source
+pub record TakenTwice (n : ℕ) (kind source : List ℕ) : Type 0 where
+  pub s : ℕ
+  pub p : ℕ
+  pub q : ℕ
+  pub in-order : p < q
+  pub by-p : Taken n kind source p s
+  pub by-q : Taken n kind source q s
+
 -- p and q, the earlier first, took from one source, and A does not relate them
 pub record TwoTaken (kind source : List ℕ) (A : Rel) (p q : ℕ) : Type 0 where
   pub in-order : p < q

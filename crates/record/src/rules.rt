@@ -28,13 +28,9 @@ pub enum ByteTest {
     Faulty(Fault),
 }
 
-// "The kind and order table, one row for each kind": NA, ACQ, REL, AR, SC.
-const ALLOWED: [[u8; 5]; 4] = [
-    [1, 0, 0, 0, 0],
-    [1, 1, 0, 0, 1],
-    [1, 0, 1, 0, 1],
-    [0, 0, 0, 1, 1],
-];
+// "The kind and order table, one row for each kind", as bits of one word: five for each kind, the last five for the Init, and among them
+// SC, AR, REL, ACQ, NA. A table of bytes would be laid down anew for each record.
+const ALLOWED: u32 = 0b11000_10101_10011_00001;
 
 // Refusal 2 is not given.
 fn marked_at(b: &[u8]) -> bool
@@ -54,7 +50,7 @@ fn in_row(kind: u8, order: u8) -> bool
     if 5 <= order {
         return false;
     }
-    ALLOWED[kind as usize][order as usize] == 1
+    (ALLOWED >> (5 * kind + order)) % 2 == 1
 }
 
 fn reads(kind: u8) -> bool

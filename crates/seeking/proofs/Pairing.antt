@@ -2,14 +2,17 @@
 use mathlib.Core.Path.{sym, subst}
 use mathlib.Core.List.{List}
 use Prim.Native.Nat.{ℕ, _<_}
+use native.Mathlib.Omega.{arith}
 use Rattle.laws.specs.Steps.{Rel}
+use Rattle.laws.specs.Least.{Least}
 use Rattle.laws.specs.Witness.{Witness, PairWith, pair-with}
 use Rattle.laws.proofs.Steps.{Within}
 use Rattle.findings.specs.declared.Found.{Found}
+use Rattle.findings.specs.declared.Found.the-variants.{Nothing}
 use Rattle.findings.specs.Meant.{Finds}
-use Rattle.findings.proofs.Meant.{finds-iff}
+use Rattle.findings.proofs.Meant.{finds-iff, found-no-pair}
 use Rattle.rows.specs.Rows.{Cell, Made}
-use Rattle.pairs.specs.Tokens.{TwoTaken}
+use Rattle.pairs.specs.Tokens.{TwoTaken, TakenTwice}
 use Rattle.model.specs.Table.{Table}
 use Rattle.model.specs.Findings.{ShowsA2, ShowsA3, ShowsA5, ShowsW}
 use Rattle.model.proofs.Within.{within-by, hb-within, race-within, one-source-within}
@@ -29,10 +32,25 @@ pair-found {w} {n} {Q} {S} {m₀} {m} made to from within = finds-iff (λ z. the
         let l = within .right s in
         pair-with (within .left s, record { row = l; on = made .holds .all _ _ l (from _ _ l s) })
 
+-- where no pair is one of S
+pub no-pair-found : {n : ℕ} {S : Rel} → ((p q : ℕ) → q < n → ¬ S p q) → Within n S → Finds (PairWith S) Nothing
+no-pair-found never within = found-no-pair (Least.absent (λ z s. never (z .first) (z .second) (within .right s) s))
+
 -- told by another relation
 pub taken-by : {kind source : List ℕ} {A B : Rel} {p q : ℕ} → (B p q → A p q) → TwoTaken kind source A p q → TwoTaken kind source B p q
 taken-by f x =
     record { in-order = x .in-order; takes-p = x .takes-p; takes-q = x .takes-q; s = x .s; from-p = x .from-p; from-q = x .from-q; apart = λ b. x .apart (f b) }
+
+-- two that the relation keeps apart are two
+pub two-twice : {n p q : ℕ} {kind source : List ℕ} {A : Rel} → q < n → TwoTaken kind source A p q → TakenTwice n kind source
+two-twice l x = record {
+  s = x .s;
+  p = _;
+  q = _;
+  in-order = x .in-order;
+  by-p = record { low = omega (arith, l, x .in-order); takes = x .takes-p; from = x .from-p };
+  by-q = record { low = l; takes = x .takes-q; from = x .from-q };
+}
 
 module _ {t : Table} {n : ℕ} (k : Known t n) where
   within-known : {R : Rel} → Within (t .count) R → Within n R

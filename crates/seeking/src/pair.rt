@@ -5,6 +5,8 @@ use pairs::asked::meet_led;
 use pairs::asked::of_codes;
 use pairs::asked::tokens;
 use pairs::least::least_pair;
+use pairs::twice::taken_twice;
+use rows::whole::relates_any;
 use spread::apart::apart;
 ghost use Prim.Native.Nat.{_≤_};
 ghost use lib.ListN.{length};
@@ -38,6 +40,9 @@ pub fn find_racing_writes(kind: &[u8], race: &[u64], shows: &mut [u64], w: usize
     requires { ⌜ (n ≤ length (now kind)) × Room w n n (now race) × Room w n n (now shows) ⌝ }
     ensures { λ r. ⌜ ((t : Table) → Known t n → Column n (kindNumber t) (now (kind .entry)) → Holds w n (EarlierRace t) (now (race .entry)) → Finds (Shows t W) r) ⌝ }
 {
+    if !relates_any(race, w, n) {
+        return Found::Nothing;
+    }
     of_codes(kind, 2, race, shows, w, n);
     least_pair(shows, w, n)
 }
@@ -55,6 +60,9 @@ pub fn find_token_taken_twice(
     requires { ⌜ TakerRoom w n (now kind) (now source) (now takers) × Room w n n (now cf) × Room w n n (now shows) ⌝ }
     ensures { λ r. ⌜ ((t : Table) → Known t n → Column n (kindNumber t) (now (kind .entry)) → Column n (sourceNumber t) (now (source .entry)) → Holds w n (Conflict t) (now (cf .entry)) → Finds (Shows t A5) r) ⌝ }
 {
+    if !taken_twice(kind, source, n) {
+        return Found::Nothing;
+    }
     tokens(kind, source, cf, takers, shows, w, n);
     least_pair(shows, w, n)
 }

@@ -31,11 +31,12 @@ fn thread_stood(table: &[u8], n: usize, thread: u8) -> bool
     requires { ⌜ AllStand (now table) n ⌝ }
     ensures { λ r. ⌜ r ≡ stood (eventsOf (now (table .entry)) .at) n thread ⌝ }
 {
-    let mut found = false;
     for m in 0..n {
-        found = found | (thread_at(table, m) == thread);
+        if thread_at(table, m) == thread {
+            return true;
+        }
     }
-    found
+    false
 }
 
 // With the parent p: "one not earlier", "a non-Init has another thread than its parent", or an Init's thread has stood.
