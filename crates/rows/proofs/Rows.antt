@@ -90,7 +90,7 @@ row-put w b s {m} {m′} p = record {
 }
 
 -- the bits of a row say what it has
-row-bit : (w : ℕ) (m : List ℕ) (b x : ℕ) → x < 64 * w → Bit (On w m x b) (digit (getD m (b * w + x / 64) 0) (x % 64))
+pub row-bit : (w : ℕ) (m : List ℕ) (b x : ℕ) → x < 64 * w → Bit (On w m x b) (digit (getD m (b * w + x / 64) 0) (x % 64))
 row-bit w m b x l = bit-iff (λ e. record { col = l; is1 = e }) (λ o. o .is1) (digit-is (getD m (b * w + x / 64) 0) (x % 64))
 
 -- the word of row b that has a is changed, for a itself to P a and for no other number
