@@ -42,8 +42,8 @@ pub fn each_itself(out: &mut [u64], w: usize, n: usize)
     }
 }
 
-// Empty rows take in each number at the row that the column says.
-fn sort_in(column: &[u8], out: &mut [u64], w: usize, n: usize, h: usize)
+// `sort_in`, where the compiler knows the width.
+fn sort_in_by(column: &[u8], out: &mut [u64], w: usize, n: usize, h: usize)
     requires { ⌜ (n ≤ length (now column)) × Room w n h (now out) × Holds w h (λ a b. ⊥) (now out) ⌝ }
     ensures { λ _. ⌜ Made w h (λ a l. (a < n) × (getD (now (column .entry)) a 0 ≡ l)) (now (out .entry)) (now (out .exit)) ⌝ }
 {
@@ -52,6 +52,20 @@ fn sort_in(column: &[u8], out: &mut [u64], w: usize, n: usize, h: usize)
         if l < h {
             add(out, w, a, l);
         }
+    }
+}
+
+// Empty rows take in each number at the row that the column says.
+fn sort_in(column: &[u8], out: &mut [u64], w: usize, n: usize, h: usize)
+    requires { ⌜ (n ≤ length (now column)) × Room w n h (now out) × Holds w h (λ a b. ⊥) (now out) ⌝ }
+    ensures { λ _. ⌜ Made w h (λ a l. (a < n) × (getD (now (column .entry)) a 0 ≡ l)) (now (out .entry)) (now (out .exit)) ⌝ }
+{
+    if w == 1 {
+        sort_in_by(column, out, 1, n, h);
+    } else if w == 2 {
+        sort_in_by(column, out, 2, n, h);
+    } else {
+        sort_in_by(column, out, 4, n, h);
     }
 }
 
@@ -64,8 +78,8 @@ pub fn sorted(column: &[u8], out: &mut [u64], w: usize, n: usize, h: usize)
     sort_in(column, out, w, n, h);
 }
 
-// All that any of the first n rows has.
-pub fn joined(m: &[u64], w: usize, n: usize) -> Set
+// `joined`, where the compiler knows the width.
+fn joined_by(m: &[u64], w: usize, n: usize) -> Set
     requires { ⌜ Room w n n (now m) ⌝ }
     ensures { λ r. ⌜ Is r (λ a. (b : ℕ) × Cell w n (now (m .entry)) a b) ⌝ }
 {
@@ -74,6 +88,20 @@ pub fn joined(m: &[u64], w: usize, n: usize) -> Set
         all = either(all, row(m, w, b));
     }
     all
+}
+
+// All that any of the first n rows has.
+pub fn joined(m: &[u64], w: usize, n: usize) -> Set
+    requires { ⌜ Room w n n (now m) ⌝ }
+    ensures { λ r. ⌜ Is r (λ a. (b : ℕ) × Cell w n (now (m .entry)) a b) ⌝ }
+{
+    if w == 1 {
+        return joined_by(m, 1, n);
+    }
+    if w == 2 {
+        return joined_by(m, 2, n);
+    }
+    joined_by(m, 4, n)
 }
 
 // Whether any row has a number.
