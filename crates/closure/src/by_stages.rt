@@ -41,7 +41,7 @@ fn close_through(
 }
 
 // The same; where nothing leads to k there is nothing to do.
-fn close_by(class: &[u8], members: &[u64], m: &mut [u64], w: usize, n: usize, h: usize, k: usize)
+fn close_stage(class: &[u8], members: &[u64], m: &mut [u64], w: usize, n: usize, h: usize, k: usize)
     requires { ⌜ (k < n) × InClasses w n h (now class) (now members) (now m) ⌝ }
     ensures { λ _. ⌜ Made w n (λ a b. Cell w n (now (m .entry)) a b ⊎ (Cell w n (now (m .entry)) a k × Cell w n (now (m .entry)) k b)) (now (m .entry)) (now (m .exit)) ⌝ }
 {
@@ -56,8 +56,22 @@ pub fn close(class: &[u8], members: &[u64], m: &mut [u64], w: usize, n: usize, h
     requires { ⌜ InClasses w n h (now class) (now members) (now m) ⌝ }
     ensures { λ _. ⌜ Made w n (Plus (Cell w n (now (m .entry)))) (now (m .entry)) (now (m .exit)) ⌝ }
 {
+    if w == 1 {
+        close_by(class, members, m, 1, n, h);
+    } else if w == 2 {
+        close_by(class, members, m, 2, n, h);
+    } else {
+        close_by(class, members, m, 4, n, h);
+    }
+}
+
+// `close`, where the compiler knows the width.
+fn close_by(class: &[u8], members: &[u64], m: &mut [u64], w: usize, n: usize, h: usize)
+    requires { ⌜ InClasses w n h (now class) (now members) (now m) ⌝ }
+    ensures { λ _. ⌜ Made w n (Plus (Cell w n (now (m .entry)))) (now (m .entry)) (now (m .exit)) ⌝ }
+{
     for k in 0..n {
-        close_by(class, members, m, w, n, h, k);
+        close_stage(class, members, m, w, n, h, k);
     }
 }
 
@@ -77,6 +91,20 @@ fn gather_row(x: &[u64], m: &[u64], out: &mut [u64], w: usize, n: usize, b: usiz
 
 // What x relates to a number that m relates to b, for each b to which the column gives this code; nothing for others.
 pub fn gather(column: &[u8], code: u8, x: &[u64], m: &[u64], out: &mut [u64], w: usize, n: usize)
+    requires { ⌜ (n ≤ length (now column)) × Room w n n (now x) × Room w n n (now m) × Room w n n (now out) ⌝ }
+    ensures { λ _. ⌜ Made w n (λ a b. (getD (now (column .entry)) b 0 ≡ code) × Then (Cell w n (now (x .entry))) (On w (now (m .entry))) a b) (now (out .entry)) (now (out .exit)) ⌝ }
+{
+    if w == 1 {
+        gather_by(column, code, x, m, out, 1, n);
+    } else if w == 2 {
+        gather_by(column, code, x, m, out, 2, n);
+    } else {
+        gather_by(column, code, x, m, out, 4, n);
+    }
+}
+
+// `gather`, where the compiler knows the width.
+fn gather_by(column: &[u8], code: u8, x: &[u64], m: &[u64], out: &mut [u64], w: usize, n: usize)
     requires { ⌜ (n ≤ length (now column)) × Room w n n (now x) × Room w n n (now m) × Room w n n (now out) ⌝ }
     ensures { λ _. ⌜ Made w n (λ a b. (getD (now (column .entry)) b 0 ≡ code) × Then (Cell w n (now (x .entry))) (On w (now (m .entry))) a b) (now (out .entry)) (now (out .exit)) ⌝ }
 {

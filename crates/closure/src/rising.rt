@@ -67,6 +67,28 @@ pub fn rise(
     requires { ⌜ Rising w n (now m) (now x) (now out) (now over) (now left) ⌝ }
     ensures { λ _. ⌜ Made w n (Plus (Cell w n (now (m .entry)))) (now (out .entry)) (now (out .exit)) × Made w n (Then (On w (now (x .entry))) (Plus (Cell w n (now (m .entry))))) (now (over .entry)) (now (over .exit)) × Made w 1 (λ a b. ⊥) (now (left .entry)) (now (left .exit)) ⌝ }
 {
+    if w == 1 {
+        rise_by(m, x, out, over, left, 1, n);
+    } else if w == 2 {
+        rise_by(m, x, out, over, left, 2, n);
+    } else {
+        rise_by(m, x, out, over, left, 4, n);
+    }
+}
+
+// `rise`, where the compiler knows the width.
+fn rise_by(
+    m: &[u64],
+    x: &[u64],
+    out: &mut [u64],
+    over: &mut [u64],
+    left: &mut [u64],
+    w: usize,
+    n: usize,
+)
+    requires { ⌜ Rising w n (now m) (now x) (now out) (now over) (now left) ⌝ }
+    ensures { λ _. ⌜ Made w n (Plus (Cell w n (now (m .entry)))) (now (out .entry)) (now (out .exit)) × Made w n (Then (On w (now (x .entry))) (Plus (Cell w n (now (m .entry))))) (now (over .entry)) (now (over .exit)) × Made w 1 (λ a b. ⊥) (now (left .entry)) (now (left .exit)) ⌝ }
+{
     // empty at the end even where there are no rows
     clear(left, w, n, 1);
     for b in 0..n {

@@ -74,6 +74,50 @@ pub fn races(
 {
     clear(at, w, n, 33);
     clear(na, w, n, 1);
+    fill_races(place, kind, order, hb, cf, at, na, out, w, n);
+}
+
+// The same, where `at` and `na` are empty yet.
+fn fill_races(
+    place: &[u8],
+    kind: &[u8],
+    order: &[u8],
+    hb: &[u64],
+    cf: &[u64],
+    at: &mut [u64],
+    na: &mut [u64],
+    out: &mut [u64],
+    w: usize,
+    n: usize,
+)
+    requires { ⌜ RaceRoom w n (now place) (now order) (now hb) (now cf) (now at) (now na) × (n ≤ length (now kind)) × Room w n n (now out) × Holds w 33 (λ a l. ⊥) (now at) × Holds w 1 (λ a l. ⊥) (now na) ⌝ }
+    ensures { λ _. ⌜ Made w 33 (WritesAt n (now (kind .entry)) (now (place .entry))) (now (at .entry)) (now (at .exit)) × Made w 1 (OfOrder n (now (order .entry))) (now (na .entry)) (now (na .exit)) × Made w n (RacesBefore (now (place .entry)) (now (kind .entry)) (now (order .entry)) (On w (now (hb .entry))) (On w (now (cf .entry)))) (now (out .entry)) (now (out .exit)) ⌝ }
+{
+    if w == 1 {
+        fill_races_by(place, kind, order, hb, cf, at, na, out, 1, n);
+    } else if w == 2 {
+        fill_races_by(place, kind, order, hb, cf, at, na, out, 2, n);
+    } else {
+        fill_races_by(place, kind, order, hb, cf, at, na, out, 4, n);
+    }
+}
+
+// `fill_races`, where the compiler knows the width.
+fn fill_races_by(
+    place: &[u8],
+    kind: &[u8],
+    order: &[u8],
+    hb: &[u64],
+    cf: &[u64],
+    at: &mut [u64],
+    na: &mut [u64],
+    out: &mut [u64],
+    w: usize,
+    n: usize,
+)
+    requires { ⌜ RaceRoom w n (now place) (now order) (now hb) (now cf) (now at) (now na) × (n ≤ length (now kind)) × Room w n n (now out) × Holds w 33 (λ a l. ⊥) (now at) × Holds w 1 (λ a l. ⊥) (now na) ⌝ }
+    ensures { λ _. ⌜ Made w 33 (WritesAt n (now (kind .entry)) (now (place .entry))) (now (at .entry)) (now (at .exit)) × Made w 1 (OfOrder n (now (order .entry))) (now (na .entry)) (now (na .exit)) × Made w n (RacesBefore (now (place .entry)) (now (kind .entry)) (now (order .entry)) (On w (now (hb .entry))) (On w (now (cf .entry)))) (now (out .entry)) (now (out .exit)) ⌝ }
+{
     for b in 0..n {
         let racing = race_row(place, order, hb, cf, at, na, w, n, b);
         put(out, w, b, racing);

@@ -19,6 +19,20 @@ pub fn elsewhere(place: &[u8], po: &[u64], at: &[u64], out: &mut [u64], w: usize
     requires { ⌜ ElsewhereRoom w n (now place) (now po) (now at) (now out) ⌝ }
     ensures { λ _. ⌜ Made w n (Elsewhere (now (place .entry)) (On w (now (po .entry))) (On w (now (at .entry)))) (now (out .entry)) (now (out .exit)) ⌝ }
 {
+    if w == 1 {
+        elsewhere_by(place, po, at, out, 1, n);
+    } else if w == 2 {
+        elsewhere_by(place, po, at, out, 2, n);
+    } else {
+        elsewhere_by(place, po, at, out, 4, n);
+    }
+}
+
+// `elsewhere`, where the compiler knows the width.
+fn elsewhere_by(place: &[u8], po: &[u64], at: &[u64], out: &mut [u64], w: usize, n: usize)
+    requires { ⌜ ElsewhereRoom w n (now place) (now po) (now at) (now out) ⌝ }
+    ensures { λ _. ⌜ Made w n (Elsewhere (now (place .entry)) (On w (now (po .entry))) (On w (now (at .entry)))) (now (out .entry)) (now (out .exit)) ⌝ }
+{
     for b in 0..n {
         put(
             out,
@@ -54,6 +68,28 @@ fn turn(
 }
 
 pub fn detours(
+    parent: &[u8],
+    place: &[u8],
+    elsewhere: &[u64],
+    around: &[u64],
+    out: &mut [u64],
+    w: usize,
+    n: usize,
+)
+    requires { ⌜ TurningRoom w n (now parent) (now place) (now elsewhere) (now around) (now out) ⌝ }
+    ensures { λ _. ⌜ Made w n (Turned (now (parent .entry)) (now (place .entry)) (On w (now (elsewhere .entry))) (On w (now (around .entry)))) (now (out .entry)) (now (out .exit)) ⌝ }
+{
+    if w == 1 {
+        detours_by(parent, place, elsewhere, around, out, 1, n);
+    } else if w == 2 {
+        detours_by(parent, place, elsewhere, around, out, 2, n);
+    } else {
+        detours_by(parent, place, elsewhere, around, out, 4, n);
+    }
+}
+
+// `detours`, where the compiler knows the width.
+fn detours_by(
     parent: &[u8],
     place: &[u8],
     elsewhere: &[u64],
@@ -117,6 +153,32 @@ fn steps_to(
 
 // Row 4 of `orders` has the SC records.
 pub fn among(
+    order: &[u8],
+    place: &[u8],
+    orders: &[u64],
+    at: &[u64],
+    hb: &[u64],
+    detour: &[u64],
+    wb: &[u64],
+    over: &[u64],
+    out: &mut [u64],
+    w: usize,
+    n: usize,
+)
+    requires { ⌜ (n ≤ length (now order)) × AmongRoom w n (now place) (now orders) (now at) (now hb) (now detour) (now wb) (now over) × Room w n n (now out) ⌝ }
+    ensures { λ _. ⌜ Made w n (Among (now (order .entry)) (now (place .entry)) (On w (now (orders .entry))) (On w (now (at .entry))) (On w (now (hb .entry))) (On w (now (detour .entry))) (On w (now (wb .entry))) (On w (now (over .entry)))) (now (out .entry)) (now (out .exit)) ⌝ }
+{
+    if w == 1 {
+        among_by(order, place, orders, at, hb, detour, wb, over, out, 1, n);
+    } else if w == 2 {
+        among_by(order, place, orders, at, hb, detour, wb, over, out, 2, n);
+    } else {
+        among_by(order, place, orders, at, hb, detour, wb, over, out, 4, n);
+    }
+}
+
+// `among`, where the compiler knows the width.
+fn among_by(
     order: &[u8],
     place: &[u8],
     orders: &[u64],

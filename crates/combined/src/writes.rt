@@ -12,7 +12,7 @@ ghost use mathlib.Core.Logic.{_⊎_};
 ghost use mathlib.Core.Path.{_≡_};
 ghost use Prim.Native.Nat.{_*_, _<_};
 ghost use Rattle.rows.specs.Sets.{In, Is};
-ghost use Rattle.rows.specs.Rows.{On, HasRow, MadeRow, Made};
+ghost use Rattle.rows.specs.Rows.{On, Holds, HasRow, MadeRow, Made};
 ghost use Rattle.rows.specs.Steps.{ByEither, Star, Then};
 ghost use Rattle.combined.specs.Writes.{Owning, HandedOn, NoneItself, Handed, OwningRoom, HandingRoom};
 
@@ -68,6 +68,50 @@ pub fn handed_on(
     ensures { λ _. ⌜ Made w n (Then (Owning (now (kind .entry)) (now (source .entry))) (Star (ByEither (now (parent .entry)) (now (sync .entry))))) (now (owners .entry)) (now (owners .exit)) × Made w n (HandedOn n (now (parent .entry)) (now (sync .entry)) (now (kind .entry)) (now (source .entry)) (now (place .entry)) (On w (now (at .entry)))) (now (out .entry)) (now (out .exit)) ⌝ }
 {
     clear(out, w, n, n);
+    fill_handed(parent, sync, kind, source, place, at, owners, out, w, n);
+}
+
+// The same, where `out` is empty yet.
+fn fill_handed(
+    parent: &[u8],
+    sync: &[u8],
+    kind: &[u8],
+    source: &[u8],
+    place: &[u8],
+    at: &[u64],
+    owners: &mut [u64],
+    out: &mut [u64],
+    w: usize,
+    n: usize,
+)
+    requires { ⌜ HandingRoom w n (now parent) (now sync) (now kind) (now source) (now place) (now at) (now owners) (now out) × Holds w n (λ a o. ⊥) (now out) ⌝ }
+    ensures { λ _. ⌜ Made w n (Then (Owning (now (kind .entry)) (now (source .entry))) (Star (ByEither (now (parent .entry)) (now (sync .entry))))) (now (owners .entry)) (now (owners .exit)) × Made w n (HandedOn n (now (parent .entry)) (now (sync .entry)) (now (kind .entry)) (now (source .entry)) (now (place .entry)) (On w (now (at .entry)))) (now (out .entry)) (now (out .exit)) ⌝ }
+{
+    if w == 1 {
+        fill_handed_by(parent, sync, kind, source, place, at, owners, out, 1, n);
+    } else if w == 2 {
+        fill_handed_by(parent, sync, kind, source, place, at, owners, out, 2, n);
+    } else {
+        fill_handed_by(parent, sync, kind, source, place, at, owners, out, 4, n);
+    }
+}
+
+// `fill_handed`, where the compiler knows the width.
+fn fill_handed_by(
+    parent: &[u8],
+    sync: &[u8],
+    kind: &[u8],
+    source: &[u8],
+    place: &[u8],
+    at: &[u64],
+    owners: &mut [u64],
+    out: &mut [u64],
+    w: usize,
+    n: usize,
+)
+    requires { ⌜ HandingRoom w n (now parent) (now sync) (now kind) (now source) (now place) (now at) (now owners) (now out) × Holds w n (λ a o. ⊥) (now out) ⌝ }
+    ensures { λ _. ⌜ Made w n (Then (Owning (now (kind .entry)) (now (source .entry))) (Star (ByEither (now (parent .entry)) (now (sync .entry))))) (now (owners .entry)) (now (owners .exit)) × Made w n (HandedOn n (now (parent .entry)) (now (sync .entry)) (now (kind .entry)) (now (source .entry)) (now (place .entry)) (On w (now (at .entry)))) (now (out .entry)) (now (out .exit)) ⌝ }
+{
     for b in 0..n {
         let before = from_either(parent, sync, owners, w, n, b);
         put(owners, w, b, before);

@@ -67,6 +67,28 @@ pub fn steps_back(
     requires { ⌜ Searches w n (now m) (now alive) s (now layers) × (bound ≤ n + 1) ⌝ }
     ensures { λ r. ⌜ Back (Step w n (now (m .entry)) (now (alive .entry))) w s bound r (now (layers .exit)) ⌝ }
 {
+    if w == 1 {
+        return steps_back_by(m, 1, n, alive, s, bound, layers);
+    }
+    if w == 2 {
+        return steps_back_by(m, 2, n, alive, s, bound, layers);
+    }
+    steps_back_by(m, 4, n, alive, s, bound, layers)
+}
+
+// `steps_back`, where the compiler knows the width.
+fn steps_back_by(
+    m: &[u64],
+    w: usize,
+    n: usize,
+    alive: &[u64],
+    s: usize,
+    bound: usize,
+    layers: &mut [u64],
+) -> usize
+    requires { ⌜ Searches w n (now m) (now alive) s (now layers) × (bound ≤ n + 1) ⌝ }
+    ensures { λ r. ⌜ Back (Step w n (now (m .entry)) (now (alive .entry))) w s bound r (now (layers .exit)) ⌝ }
+{
     first_layer(m, w, n, alive, s, layers);
     let mut met = nothing();
     let mut e: usize = 0;

@@ -20,6 +20,20 @@ pub fn goes_back(m: &[u64], w: usize, n: usize) -> bool
     requires { ⌜ Room w n n (now m) ⌝ }
     ensures { λ r. ⌜ Says r (GoesBack w n (now (m .entry))) ⌝ }
 {
+    if w == 1 {
+        return goes_back_by(m, 1, n);
+    }
+    if w == 2 {
+        return goes_back_by(m, 2, n);
+    }
+    goes_back_by(m, 4, n)
+}
+
+// `goes_back`, where the compiler knows the width.
+fn goes_back_by(m: &[u64], w: usize, n: usize) -> bool
+    requires { ⌜ Room w n n (now m) ⌝ }
+    ensures { λ r. ⌜ Says r (GoesBack w n (now (m .entry))) ⌝ }
+{
     for b in 0..n {
         if next(m, w, b, b) < 64 * w {
             return true;

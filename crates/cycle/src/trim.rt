@@ -60,6 +60,20 @@ pub fn trim(m: &[u64], w: usize, n: usize, alive: &mut [u64])
     requires { ⌜ TrimRoom w n (now m) (now alive) ⌝ }
     ensures { λ _. ⌜ Keeps w n (now (m .entry)) (now (alive .exit)) ⌝ }
 {
+    if w == 1 {
+        trim_by(m, 1, n, alive);
+    } else if w == 2 {
+        trim_by(m, 2, n, alive);
+    } else {
+        trim_by(m, 4, n, alive);
+    }
+}
+
+// `trim`, where the compiler knows the width.
+fn trim_by(m: &[u64], w: usize, n: usize, alive: &mut [u64])
+    requires { ⌜ TrimRoom w n (now m) (now alive) ⌝ }
+    ensures { λ _. ⌜ Keeps w n (now (m .entry)) (now (alive .exit)) ⌝ }
+{
     fill(w, n, alive);
     for _ in 0..n {
         if !trim_pass(m, w, n, alive) {

@@ -58,6 +58,10 @@ filled-more f {d} {k} {m} {m′} at v h l e p = record {
       (ap (λ (z : ℕ). getD (set m′ at v) z 0) (sym h) ∙ getD-set-same m′ at v 0 (omega (arith, p .rest .size)) ∙ e);
 }
 
+-- all of the words, where a loop over them ends
+pub filled-whole : {f : ℕ → ℕ} {d i n : ℕ} {m m′ : List ℕ} → i ≡ n → Filled f d i m m′ → Filled f d n m m′
+filled-whole {f} {d} {i} {n} {m} {m′} e = subst (λ (k : ℕ). Filled f d k m m′) e
+
 -- words that are all 0
 pub zeros : (k i : ℕ) → _≡_ {A = ℕ} (getD (replicate k 0) i 0) 0
 zeros zero i = refl

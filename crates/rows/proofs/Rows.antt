@@ -12,7 +12,7 @@ use lib.Seq.{getD-set-same, getD-set-other}
 use borrow.Author.Count.{below-more}
 use Rattle.rows.specs.declared.set.Set.{Set}
 use Rattle.rows.specs.Sets.{digit, wordOf, In, Is}
-use Rattle.rows.specs.Rows.{On, Holds, HasRow, Place, Room, Given, Outside, MadeRow, Made}
+use Rattle.rows.specs.Rows.{Width, On, Holds, HasRow, Place, Room, Given, Outside, MadeRow, Made}
 use Rattle.rows.proofs.Digits.{Bit, bit-iff, bit-at, bit-is, bit-yes, digit-is, digit-dec, digit-or, digit-less, digit-one, never-in-zero}
 use Rattle.rows.proofs.Parts.{row-before, row-apart, outside-none, outside-wider, outside-trans, outside-set, Filled, zeros}
 
@@ -90,7 +90,7 @@ row-put w b s {m} {m′} p = record {
 }
 
 -- the bits of a row say what it has
-row-bit : (w : ℕ) (m : List ℕ) (b x : ℕ) → x < 64 * w → Bit (On w m x b) (digit (getD m (b * w + x / 64) 0) (x % 64))
+pub row-bit : (w : ℕ) (m : List ℕ) (b x : ℕ) → x < 64 * w → Bit (On w m x b) (digit (getD m (b * w + x / 64) 0) (x % 64))
 row-bit w m b x l = bit-iff (λ e. record { col = l; is1 = e }) (λ o. o .is1) (digit-is (getD m (b * w + x / 64) 0) (x % 64))
 
 -- the word of row b that has a is changed, for a itself to P a and for no other number
@@ -283,3 +283,7 @@ made-room r p = room-kept (p .rest .size) r
 -- and holds what it was made to
 pub made-given : {w n : ℕ} {R : ℕ → ℕ → Type 0} {m m′ : List ℕ} → Room w n n m → Made w n R m m′ → Given w n R m′
 made-given r p = record { has = made-room r p; holds = p .holds }
+
+-- a row that has neither one word nor two has four
+pub four-words : {w : ℕ} → Width w → ¬ (w ≡ 1) → ¬ (w ≡ 2) → w ≡ 4
+four-words h one two = omega (arith, h .some, h .most, h .not-3, one, two)

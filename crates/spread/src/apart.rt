@@ -59,6 +59,28 @@ fn downward(
     requires { ⌜ (n ≤ length (now parent)) × (n ≤ length (now arm)) × Room w n n (now x) × Room w n n (now below) × Room w n n (now arms) ⌝ }
     ensures { λ _. ⌜ Made w n (Under n (now (parent .entry)) (On w (now (x .entry)))) (now (below .entry)) (now (below .exit)) × Made w n (UnderArms n (now (parent .entry)) (now (arm .entry)) (On w (now (x .entry)))) (now (arms .entry)) (now (arms .exit)) ⌝ }
 {
+    if w == 1 {
+        downward_by(parent, arm, x, below, arms, 1, n);
+    } else if w == 2 {
+        downward_by(parent, arm, x, below, arms, 2, n);
+    } else {
+        downward_by(parent, arm, x, below, arms, 4, n);
+    }
+}
+
+// `downward`, where the compiler knows the width.
+fn downward_by(
+    parent: &[u8],
+    arm: &[u8],
+    x: &[u64],
+    below: &mut [u64],
+    arms: &mut [u64],
+    w: usize,
+    n: usize,
+)
+    requires { ⌜ (n ≤ length (now parent)) × (n ≤ length (now arm)) × Room w n n (now x) × Room w n n (now below) × Room w n n (now arms) ⌝ }
+    ensures { λ _. ⌜ Made w n (Under n (now (parent .entry)) (On w (now (x .entry)))) (now (below .entry)) (now (below .exit)) × Made w n (UnderArms n (now (parent .entry)) (now (arm .entry)) (On w (now (x .entry)))) (now (arms .entry)) (now (arms .exit)) ⌝ }
+{
     clear(below, w, n, n);
     clear(arms, w, n, n);
     for i in 0..n {
@@ -76,6 +98,28 @@ fn beside(arm: &[u8], below: &[u64], arms: &[u64], w: usize, n: usize, b: usize)
 
 // That, at each number or above it.
 fn upward(
+    parent: &[u8],
+    arm: &[u8],
+    below: &[u64],
+    arms: &[u64],
+    out: &mut [u64],
+    w: usize,
+    n: usize,
+)
+    requires { ⌜ (n ≤ length (now parent)) × (n ≤ length (now arm)) × Room w n n (now below) × Room w n n (now arms) × Room w n n (now out) ⌝ }
+    ensures { λ _. ⌜ Made w n (Then (BesideBy (now (arm .entry)) (On w (now (below .entry))) (On w (now (arms .entry)))) (Star (Leads (now (parent .entry))))) (now (out .entry)) (now (out .exit)) ⌝ }
+{
+    if w == 1 {
+        upward_by(parent, arm, below, arms, out, 1, n);
+    } else if w == 2 {
+        upward_by(parent, arm, below, arms, out, 2, n);
+    } else {
+        upward_by(parent, arm, below, arms, out, 4, n);
+    }
+}
+
+// `upward`, where the compiler knows the width.
+fn upward_by(
     parent: &[u8],
     arm: &[u8],
     below: &[u64],

@@ -27,6 +27,20 @@ pub fn onward(first: &[u8], second: &[u8], x: &[u64], out: &mut [u64], w: usize,
     requires { ⌜ (n ≤ length (now first)) × (n ≤ length (now second)) × Room w n n (now x) × Room w n n (now out) ⌝ }
     ensures { λ _. ⌜ Made w n (Then (On w (now (x .entry))) (Plus (ByEither (now (first .entry)) (now (second .entry))))) (now (out .entry)) (now (out .exit)) ⌝ }
 {
+    if w == 1 {
+        onward_by(first, second, x, out, 1, n);
+    } else if w == 2 {
+        onward_by(first, second, x, out, 2, n);
+    } else {
+        onward_by(first, second, x, out, 4, n);
+    }
+}
+
+// `onward`, where the compiler knows the width.
+fn onward_by(first: &[u8], second: &[u8], x: &[u64], out: &mut [u64], w: usize, n: usize)
+    requires { ⌜ (n ≤ length (now first)) × (n ≤ length (now second)) × Room w n n (now x) × Room w n n (now out) ⌝ }
+    ensures { λ _. ⌜ Made w n (Then (On w (now (x .entry))) (Plus (ByEither (now (first .entry)) (now (second .entry))))) (now (out .entry)) (now (out .exit)) ⌝ }
+{
     for b in 0..n {
         let one = from_either(first, second, x, w, n, b);
         let more = from_either(first, second, out, w, n, b);
@@ -36,6 +50,20 @@ pub fn onward(first: &[u8], second: &[u8], x: &[u64], out: &mut [u64], w: usize,
 
 // One or more steps by either column.
 pub fn before(first: &[u8], second: &[u8], out: &mut [u64], w: usize, n: usize)
+    requires { ⌜ (n ≤ length (now first)) × (n ≤ length (now second)) × Room w n n (now out) ⌝ }
+    ensures { λ _. ⌜ Made w n (Plus (ByEither (now (first .entry)) (now (second .entry)))) (now (out .entry)) (now (out .exit)) ⌝ }
+{
+    if w == 1 {
+        before_by(first, second, out, 1, n);
+    } else if w == 2 {
+        before_by(first, second, out, 2, n);
+    } else {
+        before_by(first, second, out, 4, n);
+    }
+}
+
+// `before`, where the compiler knows the width.
+fn before_by(first: &[u8], second: &[u8], out: &mut [u64], w: usize, n: usize)
     requires { ⌜ (n ≤ length (now first)) × (n ≤ length (now second)) × Room w n n (now out) ⌝ }
     ensures { λ _. ⌜ Made w n (Plus (ByEither (now (first .entry)) (now (second .entry)))) (now (out .entry)) (now (out .exit)) ⌝ }
 {
@@ -49,6 +77,20 @@ pub fn before(first: &[u8], second: &[u8], out: &mut [u64], w: usize, n: usize)
 
 // One or more steps by the column.
 pub fn along(column: &[u8], out: &mut [u64], w: usize, n: usize)
+    requires { ⌜ (n ≤ length (now column)) × Room w n n (now out) ⌝ }
+    ensures { λ _. ⌜ Made w n (Plus (Leads (now (column .entry)))) (now (out .entry)) (now (out .exit)) ⌝ }
+{
+    if w == 1 {
+        along_by(column, out, 1, n);
+    } else if w == 2 {
+        along_by(column, out, 2, n);
+    } else {
+        along_by(column, out, 4, n);
+    }
+}
+
+// `along`, where the compiler knows the width.
+fn along_by(column: &[u8], out: &mut [u64], w: usize, n: usize)
     requires { ⌜ (n ≤ length (now column)) × Room w n n (now out) ⌝ }
     ensures { λ _. ⌜ Made w n (Plus (Leads (now (column .entry)))) (now (out .entry)) (now (out .exit)) ⌝ }
 {

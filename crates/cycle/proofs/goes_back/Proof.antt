@@ -1,37 +1,25 @@
--- `goes_back` meets its contract: no step to a number below b goes back.
-use Prim.Native.Nat.{ℕ, _-_, _≤_, _<_}
-use native.Mathlib.Omega.{arith}
-use borrow.Author.Count.{below-more}
-use Rattle.laws.proofs.Says.{says-yes, says-no}
-use Rattle.rows.specs.Rows.{Cell}
-use Rattle.rows.proofs.Rows.{room-row}
+-- `goes_back` meets its contract: as it is for one word, two, and four.
+use Rattle.rows.proofs.Rows.{four-words}
 use Rattle.cycle.proofs.goes_back.Statement.{statement}
 use Rattle.cycle.proofs.goes_back.Tie as tie
 
-abbrev Inv-loop : tie.InvT-loop
-Inv-loop m w n b₀ b = (b ≤ n) × ((y : ℕ) → y < b → (a : ℕ) → Cell w n m a y → ¬ (y ≤ a))
+goes-back-by-requires : tie.Need-goes-back-by-requires
+goes-back-by-requires c κs = rw (c .if1 .taken) at (c .before .before .pre)
 
-abbrev μ-loop : tie.MeasureT-loop
-μ-loop m w n b₀ b = n - b
+returns : tie.Need-returns
+returns c = rw (c .before .if1 .taken) (c .goes-back-by .ensures)
 
-next-requires : tie.Need-next-requires Inv-loop μ-loop
-next-requires c κs = let room = c .before .before .before .pre in (room-row room (c .before .loop .b) (omega arith), omega (arith, room .wide))
+goes-back-by-requires-2 : tie.Need-goes-back-by-requires-2
+goes-back-by-requires-2 c κs = rw (c .if2 .taken) at (c .before .before .before .pre)
 
-returns : tie.Need-returns Inv-loop μ-loop
-returns c =
-    let f = c .before .next .ensures in
-    says-yes (c .before .before .before .loop .b, (c .before .next .result, (record { row = c .before .before .loop-test .taken; on = f .on (c .if1 .taken) }, f .low)))
+returns-2 : tie.Need-returns-2
+returns-2 c = rw (c .before .if2 .taken) (c .goes-back-by2 .ensures)
 
-loop-again : tie.Need-loop-again Inv-loop μ-loop
-loop-again c = (
-  omega arith,
-  below-more _ _ (c .before .before .before .loop .inv .1) (λ a z h. c .before .next .ensures .before a h (omega (arith, c .if1 .left, z .on .col)) (z .on)),
-)
+goes-back-by-requires-3 : tie.Need-goes-back-by-requires-3
+goes-back-by-requires-3 c κs = let pre = c .before .before .before .pre in rw (four-words (pre .width) (c .before .if1 .left) (c .if2 .left)) at pre
 
-returns-2 : tie.Need-returns-2 Inv-loop μ-loop
-returns-2 c = says-no (λ (b, (a, (z, h))). c .before .loop .inv .1 b (omega (arith, z .row)) a z h)
+returns-3 : tie.Need-returns-3
+returns-3 c = rw (four-words (c .before .before .before .before .pre .width) (c .before .before .if1 .left) (c .before .if2 .left)) (c .goes-back-by3 .ensures)
 
 pub goes-back-spec : {M : Type 1} → statement M
-goes-back-spec =
-    tie.close
-    (tie.spec Inv-loop μ-loop (λ c. (omega arith, λ y h. absurd (omega arith))) next-requires (λ c. omega arith) returns (λ c. omega arith) (λ c. omega arith) loop-again returns-2)
+goes-back-spec = tie.close (tie.spec goes-back-by-requires returns goes-back-by-requires-2 returns-2 goes-back-by-requires-3 returns-3)

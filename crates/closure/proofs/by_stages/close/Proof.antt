@@ -1,37 +1,25 @@
--- `by_stages::close` meets its contract: after k turns the matrix holds stage k, still within classes.
-use mathlib.Core.Path.{_≡_}
-use Prim.Native.Nat.{_-_, _≤_}
-use native.Mathlib.Omega.{arith}
-use Rattle.laws.proofs.Closure.{Stage}
-use Rattle.rows.specs.Rows.{Cell, Made}
-use Rattle.closure.specs.Classes.{InClasses}
-use Rattle.closure.proofs.Classed.{classes-kept, stage-none, stage-more, stage-all}
+-- `by_stages::close` meets its contract: as it is for one word, two, and four.
+use Rattle.rows.proofs.Rows.{four-words}
 use Rattle.closure.proofs.by_stages.close.Statement.{statement}
 use Rattle.closure.proofs.by_stages.close.Tie as tie
 
-abbrev Inv-loop : tie.InvT-loop
-Inv-loop class members m₀ w n h k₀ m k = InClasses w n h class members m × Made w n (Stage k (Cell w n m₀)) m₀ m × (k ≤ n)
+close-by-requires : tie.Need-close-by-requires
+close-by-requires c κs = rw (c .before .if1 .taken) at (c .before .before .before .before .before .pre)
 
-abbrev μ-loop : tie.MeasureT-loop
-μ-loop class members m₀ w n h k₀ m k = n - k
+returns : tie.Need-returns
+returns c = rw (c .before .before .before .before .if1 .taken) (c .before .before .close-by .ensures)
 
-close-by-requires : tie.Need-close-by-requires Inv-loop μ-loop
-close-by-requires c κs = (c .before .loop-test .taken, c .before .before .loop .inv .0)
+close-by-requires-2 : tie.Need-close-by-requires-2
+close-by-requires-2 c κs = rw (c .before .if2 .taken) at (c .before .before .before .before .before .before .pre)
 
-loop-again : tie.Need-loop-again Inv-loop μ-loop
-loop-again c =
-    let turn = c .before .before .before .before .before .loop in
-    let through = c .before .before .close-by .ensures in
-    (classes-kept (turn .inv .0) through, stage-more (c .before .before .before .before .loop-test .taken) (turn .inv .1) through, omega arith)
+returns-2 : tie.Need-returns-2
+returns-2 c = rw (c .before .before .before .before .if2 .taken) (c .before .before .close-by2 .ensures)
 
-returns : tie.Need-returns Inv-loop μ-loop
-returns c =
-    let start = c .before .before .before .before .before in
-    let e : c .before .loop .k ≡ start .args .n = omega arith in
-    stage-all (start .pre) (rw e at (c .before .loop .inv .1))
+close-by-requires-3 : tie.Need-close-by-requires-3
+close-by-requires-3 c κs = let pre = c .before .before .before .before .before .before .pre in rw (four-words (pre .for-m .width) (c .before .before .if1 .left) (c .before .if2 .left)) at pre
+
+returns-3 : tie.Need-returns-3
+returns-3 c = rw (four-words (c .before .before .before .before .before .before .before .before .before .pre .for-m .width) (c .before .before .before .before .before .if1 .left) (c .before .before .before .before .if2 .left)) (c .before .before .close-by3 .ensures)
 
 pub close-spec : {M : Type 1} → statement M
-close-spec =
-    tie.close
-    (tie.spec Inv-loop μ-loop (λ c. (c .before .before .before .pre, stage-none _ _ _, omega arith)) close-by-requires (λ c. omega arith)
-    (λ c. omega arith) loop-again (λ c. returns c .rest .size) returns)
+close-spec = tie.close (tie.spec close-by-requires close-by-requires-2 close-by-requires-3 (λ c. returns c .rest .size) returns (λ c. returns-2 c .rest .size) returns-2 (λ c. returns-3 c .rest .size) returns-3)

@@ -1,68 +1,25 @@
--- `sequential::among` meets its contract: the first b rows have the steps among SC records.
-use mathlib.Core.Path.{_≡_}
-use mathlib.Core.Logic.{⊎-elim}
-use Prim.Native.Nat.{_-_, _≤_}
-use native.Mathlib.Omega.{arith}
-use borrow.Author.Count.{falls}
-use lib.ListN.{length}
-use Rattle.rows.specs.Rows.{On, Room, Made}
-use Rattle.rows.proofs.Sets.{is-iff}
-use Rattle.rows.proofs.Rows.{room-row, made-none, made-more, made-row-is, made-row-iff, made-room}
-use Rattle.combined.specs.Sequential.{Among, AmongRoom}
+-- `sequential::among` meets its contract: as it is for one word, two, and four.
+use Rattle.rows.proofs.Rows.{four-words}
 use Rattle.combined.proofs.sequential.among.Statement.{statement}
 use Rattle.combined.proofs.sequential.among.Tie as tie
 
-abbrev Inv-loop : tie.InvT-loop
-Inv-loop order place orders at hb detour wb over out₀ w n b₀ out b =
-    (b ≤ n) × ((n ≤ length order) × AmongRoom w n place orders at hb detour wb over × Room w n n out₀)
-    × Made w b (Among order place (On w orders) (On w at) (On w hb) (On w detour) (On w wb) (On w over)) out₀ out
+among-by-requires : tie.Need-among-by-requires
+among-by-requires c κs = rw (c .before .if1 .taken) at (c .before .before .before .before .before .before .before .before .before .before .before .pre)
 
-abbrev μ-loop : tie.MeasureT-loop
-μ-loop order place orders at hb detour wb over out₀ w n b₀ out b = n - b
+returns : tie.Need-returns
+returns c = rw (c .before .before .before .before .if1 .taken) (c .before .before .among-by .ensures)
 
-shared-slice-read-if1 : tie.Need-shared-slice-read-if1 Inv-loop μ-loop
-shared-slice-read-if1 c = omega (arith, c .before .loop-test .taken, c .before .before .loop .inv .1 .0)
+among-by-requires-2 : tie.Need-among-by-requires-2
+among-by-requires-2 c κs = rw (c .before .if2 .taken) at (c .before .before .before .before .before .before .before .before .before .before .before .before .pre)
 
-steps-to-requires : tie.Need-steps-to-requires Inv-loop μ-loop
-steps-to-requires c κs = let inv = c .before .before .before .before .loop .inv in (c .before .before .before .loop-test .taken, inv .1 .1, made-room (inv .1 .2) (inv .2))
+returns-2 : tie.Need-returns-2
+returns-2 c = rw (c .before .before .before .before .if2 .taken) (c .before .before .among-by2 .ensures)
 
-put-requires : tie.Need-put-requires Inv-loop μ-loop
-put-requires c κs = let inv = c .before .before .before .before .before .loop .inv in room-row (made-room (inv .1 .2) (inv .2)) _ (c .before .before .before .before .loop-test .taken)
+among-by-requires-3 : tie.Need-among-by-requires-3
+among-by-requires-3 c κs = let pre = c .before .before .before .before .before .before .before .before .before .before .before .before .pre in rw (four-words (pre .2 .width) (c .before .before .if1 .left) (c .before .if2 .left)) at pre
 
-loop-less : tie.Need-loop-less Inv-loop μ-loop
-loop-less c = falls _ _ (c .before .before .loop-test .taken)
-
-loop-again : tie.Need-loop-again Inv-loop μ-loop
-loop-again c =
-    let inv = c .before .before .before .loop .inv in
-    let low = c .before .before .loop-test .taken in
-    ⊎-elim
-    (λ y.
-    rw (y .5) (
-      omega (arith, low),
-      inv .1,
-      made-more (inv .2)
-          (made-row-iff (λ a z. record { sc-a = z .0; sc-b = y .0 .taken; by = z .1 }) (λ a s. (s .sc-a, s .by)) (y .2 .ensures)),
-    ))
-    (λ y.
-    rw (y .6) (
-      omega (arith, low),
-      inv .1,
-      made-more (inv .2)
-          (made-row-is (is-iff (λ a z. absurd z) (λ a s. y .0 .left (s .sc-b)) (y .2 .ensures)) (λ a s. s .sc-a .col) (y .3 .ensures)),
-    ))
-    (c .if1 .came)
-
-same-length : tie.Need-same-length Inv-loop μ-loop
-same-length c = c .before .loop .inv .2 .rest .size
-
-returns : tie.Need-returns Inv-loop μ-loop
-returns c =
-    let e : c .before .loop .b ≡ c .before .before .before .before .before .before .before .before .before .before .before .args .n = omega (arith, c .before .loop .inv .0, c .loop-test .left) in
-    rw e at (c .before .loop .inv .2)
+returns-3 : tie.Need-returns-3
+returns-3 c = rw (four-words (c .before .before .before .before .before .before .before .before .before .before .before .before .before .before .before .pre .2 .width) (c .before .before .before .before .before .if1 .left) (c .before .before .before .before .if2 .left)) (c .before .before .among-by3 .ensures)
 
 pub among-spec : {M : Type 1} → statement M
-among-spec =
-    tie.close
-    (tie.spec Inv-loop μ-loop (λ c. (omega arith, c .before .before .before .before .before .before .before .before .before .pre, made-none)) shared-slice-read-if1 steps-to-requires (λ c κs. tt) put-requires
-    (λ c. omega (arith, c .before .before .loop-test .taken)) loop-less loop-again same-length returns)
+among-spec = tie.close (tie.spec among-by-requires among-by-requires-2 among-by-requires-3 (λ c. returns c .rest .size) returns (λ c. returns-2 c .rest .size) returns-2 (λ c. returns-3 c .rest .size) returns-3)

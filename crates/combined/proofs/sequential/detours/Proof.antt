@@ -1,64 +1,25 @@
--- `sequential::detours` meets its contract: the first b rows are turned.
-use mathlib.Core.Path.{_≡_}
-use Prim.Native.Nat.{_-_, _≤_}
-use native.Mathlib.Omega.{arith}
-use borrow.Author.Count.{falls}
-use Rattle.rows.specs.Rows.{On, Made}
-use Rattle.rows.proofs.Rows.{room-row, made-none, made-more, made-row-is, made-room}
-use Rattle.combined.specs.Sequential.{Turned, TurningRoom}
-use Rattle.combined.proofs.Turns.{turned-low}
+-- `sequential::detours` meets its contract: as it is for one word, two, and four.
+use Rattle.rows.proofs.Rows.{four-words}
 use Rattle.combined.proofs.sequential.detours.Statement.{statement}
 use Rattle.combined.proofs.sequential.detours.Tie as tie
 
-abbrev Inv-loop : tie.InvT-loop
-Inv-loop parent place elsewhere around out₀ w n b₀ out b =
-    (b ≤ n) × TurningRoom w n parent place elsewhere around out₀
-    × Made w b (Turned parent place (On w elsewhere) (On w around)) out₀ out
+detours-by-requires : tie.Need-detours-by-requires
+detours-by-requires c κs = rw (c .before .if1 .taken) at (c .before .before .before .before .before .before .before .pre)
 
-abbrev μ-loop : tie.MeasureT-loop
-μ-loop parent place elsewhere around out₀ w n b₀ out b = n - b
+returns : tie.Need-returns
+returns c = rw (c .before .before .before .before .if1 .taken) (c .before .before .detours-by .ensures)
 
-turn-requires : tie.Need-turn-requires Inv-loop μ-loop
-turn-requires c κs =
-    let turn = c .before .before .loop in
-    let room = turn .inv .1 in (
-      c .before .loop-test .taken,
-      record {
-        placed = room .placed;
-        parents = room .parents;
-        for-elsewhere = room .for-elsewhere;
-        for-around = room .for-around;
-        for-out = made-room (room .for-out) (turn .inv .2);
-      },
-      turn .inv .2 .holds,
-    )
+detours-by-requires-2 : tie.Need-detours-by-requires-2
+detours-by-requires-2 c κs = rw (c .before .if2 .taken) at (c .before .before .before .before .before .before .before .before .pre)
 
-put-requires : tie.Need-put-requires Inv-loop μ-loop
-put-requires c κs =
-    let turn = c .before .before .before .before .loop in
-    room-row (made-room (turn .inv .1 .for-out) (turn .inv .2)) (turn .b) (omega arith)
+returns-2 : tie.Need-returns-2
+returns-2 c = rw (c .before .before .before .before .if2 .taken) (c .before .before .detours-by2 .ensures)
 
-loop-less : tie.Need-loop-less Inv-loop μ-loop
-loop-less c = falls _ _ (c .before .before .before .before .before .before .loop-test .taken)
+detours-by-requires-3 : tie.Need-detours-by-requires-3
+detours-by-requires-3 c κs = let pre = c .before .before .before .before .before .before .before .before .pre in rw (four-words (pre .for-out .width) (c .before .before .if1 .left) (c .before .if2 .left)) at pre
 
-loop-again : tie.Need-loop-again Inv-loop μ-loop
-loop-again c =
-    let turn = c .before .before .before .before .before .before .before .loop in (
-      omega arith,
-      turn .inv .1,
-      made-more (turn .inv .2) (made-row-is (c .before .before .before .before .turn .ensures) (λ a. turned-low) (c .before .before .put .ensures)),
-    )
-
-same-length : tie.Need-same-length Inv-loop μ-loop
-same-length c = c .before .loop .inv .2 .rest .size
-
-returns : tie.Need-returns Inv-loop μ-loop
-returns c =
-    let e : c .before .loop .b ≡ c .before .before .before .before .before .before .before .args .n = omega arith in
-    rw e at (c .before .loop .inv .2)
+returns-3 : tie.Need-returns-3
+returns-3 c = rw (four-words (c .before .before .before .before .before .before .before .before .before .before .before .pre .for-out .width) (c .before .before .before .before .before .if1 .left) (c .before .before .before .before .if2 .left)) (c .before .before .detours-by3 .ensures)
 
 pub detours-spec : {M : Type 1} → statement M
-detours-spec =
-    tie.close
-    (tie.spec Inv-loop μ-loop (λ c. (omega arith, c .before .before .before .before .before .pre, made-none)) turn-requires put-requires (λ c. omega arith)
-    loop-less loop-again same-length returns)
+detours-spec = tie.close (tie.spec detours-by-requires detours-by-requires-2 detours-by-requires-3 (λ c. returns c .rest .size) returns (λ c. returns-2 c .rest .size) returns-2 (λ c. returns-3 c .rest .size) returns-3)

@@ -1,41 +1,26 @@
--- `trim::trim` meets its contract: every pass keeps the cycles.
-use mathlib.Core.Path.{_≡_, refl, _∙_}
-use Prim.Native.Nat.{_-_}
-use native.Mathlib.Omega.{arith}
-use lib.ListN.{length}
-use Rattle.rows.proofs.Rows.{room-kept}
-use Rattle.cycle.specs.Trimmed.{Keeps}
-use Rattle.cycle.proofs.Trimming.{keeps-all}
+-- `trim::trim` meets its contract: as it is for one word, two, and four.
+use borrow.Author.Needs.{needs}
+use Rattle.rows.proofs.Rows.{four-words}
 use Rattle.cycle.proofs.trim.trim.Statement.{statement}
 use Rattle.cycle.proofs.trim.trim.Tie as tie
 
-abbrev Inv-loop : tie.InvT-loop
-Inv-loop m w n alive₀ counter₀ alive counter = (length alive ≡ length alive₀) × Keeps w n m alive
+trim-by-requires : tie.Need-trim-by-requires
+trim-by-requires c κs = rw (c .before .if1 .taken) at (c .before .before .before .before .pre)
 
-abbrev μ-loop : tie.MeasureT-loop
-μ-loop m w n alive₀ counter₀ alive counter = n - counter
+returns : tie.Need-returns
+returns c = rw (c .before .before .before .before .if1 .taken) (c .before .before .trim-by .ensures)
 
-abbrev entry : tie.At-loop Inv-loop μ-loop → tie.Start Inv-loop μ-loop
-entry c = c .before .before .before .before .before .before .before
+trim-by-requires-2 : tie.Need-trim-by-requires-2
+trim-by-requires-2 c κs = rw (c .before .if2 .taken) at (c .before .before .before .before .before .pre)
 
-size : (c : tie.At-loop Inv-loop μ-loop) → length (c .loop .alive) ≡ length (entry c .args .alive .now)
-size c = c .loop .inv .0 ∙ c .before .before .before .fill .kept .1 .1 .0
+returns-2 : tie.Need-returns-2
+returns-2 c = rw (c .before .before .before .before .if2 .taken) (c .before .before .trim-by2 .ensures)
 
-trim-pass-requires : tie.Need-trim-pass-requires Inv-loop μ-loop
-trim-pass-requires c κs =
-    let has = entry (c .before .before) .pre in
-    record { has = record { matrix = has .matrix; row = room-kept (size (c .before .before)) (has .row) }; keeps = c .before .before .loop .inv .1 }
+trim-by-requires-3 : tie.Need-trim-by-requires-3
+trim-by-requires-3 c κs = let pre = c .before .before .before .before .before .pre in rw (four-words (pre .matrix .width) (c .before .before .if1 .left) (c .before .if2 .left)) at pre
 
-returns : tie.Need-returns Inv-loop μ-loop
-returns c = c .before .before .before .trim-pass .ensures
-
-loop-again : tie.Need-loop-again Inv-loop μ-loop
-loop-again c = (c .before .before .before .trim-pass .kept .1 .1 .1 .0 ∙ c .before .before .before .before .before .before .loop .inv .0, c .before .before .before .trim-pass .ensures)
-
-returns-2 : tie.Need-returns-2 Inv-loop μ-loop
-returns-2 c = c .before .loop .inv .1
+returns-3 : tie.Need-returns-3
+returns-3 c = rw (four-words (c .before .before .before .before .before .before .before .before .pre .matrix .width) (c .before .before .before .before .before .if1 .left) (c .before .before .before .before .if2 .left)) (c .before .before .trim-by3 .ensures)
 
 pub trim-spec : {M : Type 1} → statement M
-trim-spec =
-    tie.close
-    (tie.spec Inv-loop μ-loop (λ c κs. c .before .before .before .pre .row) (λ c. (refl, keeps-all (c .before .before .fill .ensures))) trim-pass-requires (λ c. c .before .before .before .trim-pass .kept .1 .1 .1 .0 ∙ size (c .before .before .before .before .before .before)) returns (λ c. omega arith) (λ c. omega arith) loop-again (λ c. size (c .before)) returns-2)
+trim-spec = tie.close (tie.spec trim-by-requires trim-by-requires-2 trim-by-requires-3 (λ c. search needs) returns (λ c. search needs) returns-2 (λ c. search needs) returns-3)

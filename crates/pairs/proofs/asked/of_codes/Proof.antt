@@ -1,37 +1,25 @@
--- `asked::of_codes` meets its contract: of the first q rows those with the code are copied.
-use Prim.Native.Nat.{_-_, _≤_}
-use native.Mathlib.Omega.{arith}
-use lib.ListN.{length, getD}
-use Rattle.rows.specs.Rows.{On, Room, Made}
-use Rattle.rows.proofs.Rows.{room-row, made-none, made-more, made-whole, made-row-is, made-room}
+-- `asked::of_codes` meets its contract: as it is for one word, two, and four.
+use Rattle.rows.proofs.Rows.{four-words}
 use Rattle.pairs.proofs.asked.of_codes.Statement.{statement}
 use Rattle.pairs.proofs.asked.of_codes.Tie as tie
 
-abbrev Inv-loop : tie.InvT-loop
-Inv-loop column least x out₀ w n q₀ out q =
-    (q ≤ n) × ((n ≤ length column) × Room w n n x × Room w n n out₀) × Made w q (λ p q. (least ≤ getD column q 0) × On w x p q) out₀ out
+of-codes-by-requires : tie.Need-of-codes-by-requires
+of-codes-by-requires c κs = rw (c .before .if1 .taken) at (c .before .before .before .before .before .pre)
 
-abbrev μ-loop : tie.MeasureT-loop
-μ-loop column least x out₀ w n q₀ out q = n - q
+returns : tie.Need-returns
+returns c = rw (c .before .before .before .before .if1 .taken) (c .before .before .of-codes-by .ensures)
 
-code-row-requires : tie.Need-code-row-requires Inv-loop μ-loop
-code-row-requires c κs = let room = c .before .before .loop .inv .1 in (c .before .loop-test .taken, room .0, room .1)
+of-codes-by-requires-2 : tie.Need-of-codes-by-requires-2
+of-codes-by-requires-2 c κs = rw (c .before .if2 .taken) at (c .before .before .before .before .before .before .pre)
 
-put-requires : tie.Need-put-requires Inv-loop μ-loop
-put-requires c κs = let turn = c .before .before .before .loop in room-row (made-room (turn .inv .1 .2) (turn .inv .2)) (turn .q) (omega arith)
+returns-2 : tie.Need-returns-2
+returns-2 c = rw (c .before .before .before .before .if2 .taken) (c .before .before .of-codes-by2 .ensures)
 
-loop-again : tie.Need-loop-again Inv-loop μ-loop
-loop-again c =
-    let turn = c .before .before .before .before .before .before .loop in
-    (omega arith, turn .inv .1, made-more (turn .inv .2) (made-row-is (c .before .before .before .code-row .ensures) (λ p z. z .1 .col) (c .before .before .put .ensures)))
+of-codes-by-requires-3 : tie.Need-of-codes-by-requires-3
+of-codes-by-requires-3 c κs = let pre = c .before .before .before .before .before .before .pre in rw (four-words (pre .1 .width) (c .before .before .if1 .left) (c .before .if2 .left)) at pre
 
-same-length : tie.Need-same-length Inv-loop μ-loop
-same-length c = c .before .loop .inv .2 .rest .size
-
-returns : tie.Need-returns Inv-loop μ-loop
-returns c = made-whole (omega arith) (c .before .loop .inv .2)
+returns-3 : tie.Need-returns-3
+returns-3 c = rw (four-words (c .before .before .before .before .before .before .before .before .before .pre .1 .width) (c .before .before .before .before .before .if1 .left) (c .before .before .before .before .if2 .left)) (c .before .before .of-codes-by3 .ensures)
 
 pub of-codes-spec : {M : Type 1} → statement M
-of-codes-spec =
-    tie.close
-    (tie.spec Inv-loop μ-loop (λ c. (omega arith, c .before .before .before .pre, made-none)) code-row-requires put-requires (λ c. omega arith) (λ c. omega arith) loop-again same-length returns)
+of-codes-spec = tie.close (tie.spec of-codes-by-requires of-codes-by-requires-2 of-codes-by-requires-3 (λ c. returns c .rest .size) returns (λ c. returns-2 c .rest .size) returns-2 (λ c. returns-3 c .rest .size) returns-3)
