@@ -68,8 +68,8 @@ fn before_by(first: &[u8], second: &[u8], out: &mut [u64], w: usize, n: usize)
     ensures { λ _. ⌜ Made w n (Plus (ByEither (now (first .entry)) (now (second .entry)))) (now (out .entry)) (now (out .exit)) ⌝ }
 {
     for b in 0..n {
-        let more = from_either(first, second, out, w, n, b);
-        put(out, w, b, more);
+        let earlier = from_either(first, second, out, w, n, b);
+        put(out, w, b, earlier);
         add_led(first, out, w, n, b);
         add_led(second, out, w, n, b);
     }

@@ -19,9 +19,9 @@ abbrev read : tie.After-order3 → tie.After-read
 read c = c .before .before .before .before .before .before .before .before .before .before .before .before .before .before
 
 least-lacking-of-requires : tie.Need-least-lacking-of-requires
-least-lacking-of-requires c κs = columns-room (read c .read .ensures) (entry (read c .before) .pre .1)
+least-lacking-of-requires c κs = columns-room (read c .read .ensures .0) (entry (read c .before) .pre .1)
 
 pub least-lacking-spec : {M : Type 1} → statement M
 least-lacking-spec =
     tie.close
-    (tie.spec (λ c. search needs) (λ c. search needs) (λ c. search needs) (λ c. search needs) (λ c. search needs) (λ c. search needs) (λ c. search needs) read-requires (λ c. search needs) (λ c. search needs) (λ c. search needs) (λ c. search needs) (λ c. search needs) (λ c. search needs) (λ c. search needs) least-lacking-of-requires (λ c. c .least-lacking-of .ensures _ (read (c .before) .read .ensures)))
+    (tie.spec (λ c. search needs) (λ c. search needs) (λ c. search needs) (λ c. search needs) (λ c. search needs) (λ c. search needs) (λ c. search needs) read-requires (λ c. search needs) (λ c. search needs) (λ c. search needs) (λ c. search needs) (λ c. search needs) (λ c. search needs) (λ c. search needs) least-lacking-of-requires (λ c. c .least-lacking-of .ensures _ (read (c .before) .read .ensures .0)))
