@@ -38,7 +38,7 @@ slice-aggregate-has c = sym (c .before .before .before .before .before .loop .in
 has-requires : tie.Need-has-requires Inv-loop μ-loop
 has-requires c κs =
     let turn = c .before .before .before .before .before in
-    record { col = omega (arith, said (asked turn) (c .before .if1 .taken) .1); room = omega (arith, turn .loop .inv .1 .size) }
+    record { col = omega (arith, c .before .before .before .shared-slice-known3 .given (turn .loop .q)); room = omega (arith, turn .loop .inv .1 .size) }
 
 returns : tie.Need-returns Inv-loop μ-loop
 returns c =
@@ -51,7 +51,7 @@ slice-aggregate-add c = sym (c .before .before .before .before .before .before .
 add-requires : tie.Need-add-requires Inv-loop μ-loop
 add-requires c κs =
     let turn = c .before .before .before .before .before .before .before .before in
-    record { col = omega (arith, said (asked turn) (c .before .before .before .before .if1 .taken) .1); room = omega (arith, turn .loop .inv .1 .size) }
+    record { col = omega (arith, c .before .before .before .before .before .before .shared-slice-known3 .given (turn .loop .q)); room = omega (arith, turn .loop .inv .1 .size) }
 
 loop-again : tie.Need-loop-again Inv-loop μ-loop
 loop-again c =

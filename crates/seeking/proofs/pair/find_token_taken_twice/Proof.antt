@@ -8,7 +8,7 @@ use Rattle.seeking.proofs.pair.find_token_taken_twice.Statement.{statem
 use Rattle.seeking.proofs.pair.find_token_taken_twice.Tie as tie
 
 taken-twice-requires : tie.Need-taken-twice-requires
-taken-twice-requires c κs = let room = c .before .before .pre .0 in (room .kinds, room .sources, omega (arith, room .for-takers .wide, room .for-takers .width .most))
+taken-twice-requires c κs = let room = c .before .before .before .before .before .pre .0 in (room .kinds, room .sources, omega (arith, room .for-takers .wide, room .for-takers .width .most))
 
 returns : tie.Need-returns
 returns c = λ t k kinds sources cf.
