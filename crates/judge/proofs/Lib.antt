@@ -1,5 +1,4 @@
 -- From what the searches find to the report, and from the report to the answer.
-pub mod Found
 pub mod Reporting
 pub mod Answering
 pub mod Unique
