@@ -1,1 +1,2 @@
--- Nothing yet.
+-- Laws of what the searches and a cut stand on.
+pub mod Conflicts

@@ -1,2 +1,4 @@
 -- Laws of relations that spread.
 pub mod Arms
+pub mod Stepping
+pub mod Forking
