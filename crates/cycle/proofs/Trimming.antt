@@ -44,16 +44,17 @@ module _ {R : Rel} where
       by (c, (r, inl e)) = (c, (r, subst (λ (z : ℕ). Plus R z z) (sym e) q))
       by (c, (r, inr s)) = (c, (r, more s r))
 
-  -- where no step goes back there is no cycle
+  -- where no step goes back they rise
+  pub rising : ¬ ((b : ℕ) × ((a : ℕ) × (R a b × (b ≤ a)))) → (a b : ℕ) → R a b → a < b
+  rising n a b r = by-dec (decLt a b) (λ h. n (b, (a, (r, omega arith))))
+
+  -- and there is no cycle
   pub none-back : ¬ ((b : ℕ) × ((a : ℕ) × (R a b × (b ≤ a)))) → LeastCycle R none
   none-back n = Least.absent no-cycle
     where
-      rises : (a b : ℕ) → R a b → a < b
-      rises a b r = by-dec (decLt a b) (λ h. n (b, (a, (r, omega arith))))
-
       no-cycle : (c : List ℕ) → ¬ IsCycle R c
       no-cycle [] c = c
-      no-cycle (a ∷ xs) c = omega (arith, plus-rises rises (walk-plus R a xs a (c .1)))
+      no-cycle (a ∷ xs) c = omega (arith, plus-rises (rising n) (walk-plus R a xs a (c .1)))
 
 -- ---- the numbers below n
 

@@ -1,7 +1,6 @@
 -- What is handed on from write to write is wb0.
 use mathlib.Core.List.{List}
 use Prim.Native.Nat.{ℕ, _<_}
-use native.Mathlib.Omega.{arith}
 use lib.ListN.{getD}
 use Rattle.laws.specs.Steps.{Rel}
 use Rattle.rows.specs.Rows.{On, Made}
@@ -11,6 +10,7 @@ use Rattle.model.specs.Table.{Table}
 use Rattle.model.specs.Relations.{Wb0}
 use Rattle.columns.proofs.Writes.{handed-told, told-handed}
 use Rattle.seeking.specs.Writes.{Writing}
+use Rattle.seeking.proofs.Places.{place-low}
 
 -- told by another relation of places
 handed-by :
@@ -20,11 +20,8 @@ handed-by f x =
     record { of = x .of; low = x .low; owned = x .owned; before = x .before; one-place = f (x .of) (x .low) (x .one-place); differ = x .differ }
 
 module _ {t : Table} {w n : ℕ} {parent sync kind source place at : List ℕ} (g : Writing t w n parent sync kind source place at) where
-  place-low : (b : ℕ) → b < n → getD place b 0 < 33
-  place-low b l = let h = g .known .located b l in omega (arith, h, g .places .says b l)
-
   pub wb0-made : {m m′ : List ℕ} → Made w n (HandedOn n parent sync kind source place (On w at)) m m′ → Made w n (Wb0 t) m m′
   wb0-made =
       made-iff
-      (λ a o l x. handed-told (g .known) (g .kinds) (g .sources) (g .places) (g .parents) (g .syncs) (handed-by (λ b i. g .by-at .only a (getD place b 0) (place-low b i)) x))
-      (λ a o l x. handed-by (λ b i. g .by-at .all a (getD place b 0) (place-low b i)) (told-handed (g .known) (g .kinds) (g .sources) (g .places) (g .parents) (g .syncs) x))
+      (λ a o l x. handed-told (g .known) (g .kinds) (g .sources) (g .places) (g .parents) (g .syncs) (handed-by (λ b i. g .by-at .only a (getD place b 0) (place-low (g .known) (g .places) b i)) x))
+      (λ a o l x. handed-by (λ b i. g .by-at .all a (getD place b 0) (place-low (g .known) (g .places) b i)) (told-handed (g .known) (g .kinds) (g .sources) (g .places) (g .parents) (g .syncs) x))

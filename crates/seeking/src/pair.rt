@@ -19,7 +19,13 @@ ghost use Rattle.columns.specs.Columns.{parentNumber, armNumber, sourceNumber, 
 ghost use Rattle.seeking.specs.Pairs.{SourceRoom};
 
 // A2: "p conflicts with q and p hb q"
-pub fn find_before_in_conflict(hb: &[u64], cf: &[u64], shows: &mut [u64], w: usize, n: usize) -> Found
+pub fn find_before_in_conflict(
+    hb: &[u64],
+    cf: &[u64],
+    shows: &mut [u64],
+    w: usize,
+    n: usize,
+) -> Found
     requires { ⌜ Room w n n (now hb) × Room w n n (now cf) × Room w n n (now shows) ⌝ }
     ensures { λ r. ⌜ ((t : Table) → Known t n → Holds w n (Hb t) (now (hb .entry)) → Holds w n (Conflict t) (now (cf .entry)) → Finds (Shows t A2) r) ⌝ }
 {

@@ -10,12 +10,12 @@ use Rattle.cycle.proofs.least_cycle.Tie as tie
 
 trim-requires : tie.Need-trim-requires
 trim-requires c κs =
-    let room = c .before .before .before .before .before .before .pre .matrix in
+    let room = c .before .before .before .before .before .pre .0 .matrix in
     record { matrix = room; row = record { width = room .width; wide = room .wide; room = omega (arith, room .width .most) } }
 
 least-cycle-among-requires : tie.Need-least-cycle-among-requires
 least-cycle-among-requires c κs =
-    let q = c .before .before .before .before .before .before .before .before .before .before .before .pre in
+    let q = c .before .before .before .before .before .before .before .before .before .before .pre .0 in
     let room = q .matrix in
     record {
       has = record {
@@ -31,9 +31,9 @@ returns : tie.Need-returns
 returns c = finds-in-iff witness-was (witness-kept (c .before .before .before .before .before .before .before .before .before .trim .ensures)) (c .before .before .before .before .least-cycle-among .ensures)
 
 returns-2 : tie.Need-returns-2
-returns-2 c = found-no-cycle (none-back (denied (c .before .goes-back .ensures) (c .if1 .left))) refl
+returns-2 c = found-no-cycle (none-back (denied (c .before .before .before .before .pre .1) (c .if1 .left))) refl
 
 pub least-cycle-spec : {M : Type 1} → statement M
 least-cycle-spec =
     tie.close
-    (tie.spec (λ c κs. c .before .before .before .pre .matrix) (λ c. search needs) trim-requires (λ c. search needs) least-cycle-among-requires (λ c. search needs) (λ c. search needs) returns returns-2)
+    (tie.spec (λ c. search needs) trim-requires (λ c. search needs) least-cycle-among-requires (λ c. search needs) (λ c. search needs) returns returns-2)

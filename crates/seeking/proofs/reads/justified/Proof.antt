@@ -32,8 +32,8 @@ returns c =
     let start = entry (c .before .before) in
     let l = start .pre .0 in
     λ t kind g.
-        says-justified (raced-told g l (c .before .before .before .is-raced .ensures)) (the-source g l (c .before .if1 .taken))
-        (says-iff (g .by-hb .only _ _ l) (g .by-hb .all _ _ l) (c .has .ensures))
+    says-justified (raced-told g l (c .before .before .before .is-raced .ensures)) (the-source g l (c .before .if1 .taken))
+    (says-iff (g .by-hb .only _ _ l) (g .by-hb .all _ _ l) (c .has .ensures))
 
 is-written-requires : tie.Need-is-written-requires
 is-written-requires c κs = let p = entry (c .before) .pre in (p .0, p .1 .placed, p .1 .for-at, p .1 .for-hb)
@@ -43,8 +43,8 @@ returns-2 c =
     let start = entry (c .before .before) in
     let l = start .pre .0 in
     λ t kind g.
-        says-justified-without (raced-told g l (c .before .before .before .is-raced .ensures)) (no-source g l (c .before .if1 .left))
-        (written-told g l (c .is-written .ensures))
+    says-justified-without (raced-told g l (c .before .before .before .is-raced .ensures)) (no-source g l (c .before .if1 .left))
+    (written-told g l (c .is-written .ensures))
 
 pub justified-spec : {M : Type 1} → statement M
 justified-spec = tie.close (tie.spec is-raced-requires read-source cast-s has-requires returns is-written-requires returns-2)
