@@ -1,11 +1,12 @@
 -- What each search stands on, from what they all stand on.
 use mathlib.Core.Path.{_≡_, refl, sym, ap, _∙_}
 use mathlib.Core.List.{List}
-use Prim.Native.Nat.{ℕ, _<_}
+use Prim.Native.Nat.{ℕ, _+_, _*_, _<_, _≤_}
 use native.Mathlib.Omega.{arith}
 use lib.ListN.{length, getD}
 use Rattle.events.specs.declared.Link.{Link}
 use Rattle.events.specs.declared.Link.the-variants.{Absent, To}
+use Rattle.limits.specs.Limit.{limit}
 use Rattle.findings.specs.declared.Found.the-variants.{Nothing}
 use Rattle.findings.proofs.Meant.{found-no-pair}
 use Rattle.laws.specs.Least.{Least.absent}
@@ -13,14 +14,16 @@ use Rattle.model.specs.Table.{Table, Source}
 use Rattle.model.specs.Relations.{Wb0, Conflict}
 use Rattle.model.proofs.Facts.{has-source}
 use Rattle.model.proofs.Within.{source-within, hb-within}
-use Rattle.rows.specs.Rows.{On, Holds}
+use Rattle.rows.specs.Rows.{Width, On, Holds, Room}
 use Rattle.rows.proofs.Rows.{room-kept, holds-iff}
 use Rattle.combined.specs.Columns.{Placed}
-use Rattle.columns.specs.Columns.{linkNumber, sourceNumber, placeNumber, Column, Known}
+use Rattle.columns.specs.Columns.{linkNumber, sourceNumber, placeNumber, Column, Known, Columns}
 use Rattle.columns.proofs.Facts.{below, source-leads}
+use Rattle.basis.specs.Laid.{Laying, Laid}
 use Rattle.seeking.specs.Reads.{Reading}
 use Rattle.seeking.specs.Sequential.{ScRoom, Sequenced}
-use Rattle.judge.specs.Rooms.{Based, Conflicting, FoundInConflict, Rounding}
+use Rattle.judge.specs.Answer.{Roomy}
+use Rattle.judge.specs.Rooms.{Rooms, Outs, Based, Conflicting, FoundInConflict, Rounding}
 
 module _ {t : Table} {n : ℕ} (k : Known t n) where
   -- a column of places
@@ -150,3 +153,47 @@ sc-room-kept e f p =
       for-layers = room-kept f (p .for-layers);
       for-out = p .for-out;
     }
+
+module _ {t : Table} {n : ℕ} {parent arm source sync place kind order : List ℕ} (c : Columns t n parent arm source sync place kind order) where
+  pub laying : Laying t n parent arm sync place kind order
+  laying =
+      record { known = c .known; parents = c .parents; arms = c .arms; syncs = c .syncs; places = c .places; kinds = c .kinds; orders = c .orders }
+
+  pub based :
+      {w : ℕ} {hb cf writes race hb′ cf′ writes′ race′ : List ℕ} → Laid t w n place kind hb cf writes race hb′ cf′ writes′ race′
+      → Based t w n parent arm source sync place kind order hb′ cf′ writes′ race′
+  based l = record { columns = c; by-hb = l .by-hb .holds; by-cf = l .by-cf .holds; by-writes = l .by-at .holds; by-race = l .by-race .holds }
+
+-- ---- room
+
+pub outs : {n : ℕ} {first second : List ℕ} → n ≤ limit → Roomy first second → Outs n first second
+outs low roomy = record {
+  for-first = record { few = low; room = omega (arith, low, roomy .first) };
+  for-second = record { few = low; room = omega (arith, low, roomy .second) };
+}
+
+-- arrays of zeros, which differ by their length alone
+pub rooms-lent :
+    {w n : ℕ} {matrix shows places : List ℕ} → Width w → n ≤ 64 * w → n * w ≤ length matrix → n * w ≤ length shows → (n + 1) * w ≤ length shows → 33 * w ≤ length places
+    → Rooms w n matrix matrix matrix matrix matrix matrix matrix shows matrix matrix places places
+rooms-lent {w} {n} {matrix} {shows} {places} width wide fits less layers high = record {
+  for-own = room;
+  for-hb = room;
+  for-cf = room;
+  for-below = room;
+  for-arms = room;
+  for-race = room;
+  for-readers = room;
+  for-shows = record { width = width; wide = wide; room = less };
+  for-layers = record { width = width; wide = wide; room = layers };
+  for-owners = room;
+  for-wb0 = room;
+  for-writes = of-places;
+  for-at = of-places;
+}
+  where
+    room : Room w n n matrix
+    room = record { width = width; wide = wide; room = fits }
+
+    of-places : Room w n 33 places
+    of-places = record { width = width; wide = wide; room = high }
