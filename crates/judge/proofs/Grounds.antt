@@ -17,6 +17,7 @@ use Rattle.model.proofs.Within.{source-within, hb-within}
 use Rattle.rows.specs.Rows.{Width, On, Holds, Room}
 use Rattle.rows.proofs.Rows.{room-kept, holds-iff}
 use Rattle.combined.specs.Columns.{Placed}
+use Rattle.cycle.specs.Rounds.{OutRoom}
 use Rattle.columns.specs.Columns.{linkNumber, sourceNumber, placeNumber, Column, Known, Columns}
 use Rattle.columns.proofs.Facts.{below, source-leads}
 use Rattle.basis.specs.Laid.{Laying, Laid}
@@ -125,13 +126,13 @@ sequenced {kind = kind} g held = record {
   by-wb0 = held;
 }
 
--- room in which wb0 was laid, and its layers
+-- room in which wb0 was laid and its layers made, and room for an answer
 pub sc-room-kept :
-    {w n : ℕ} {parent sync place order hb writes readers wb0 wb0′ wb over at po other around around′ detour out : List ℕ}
-    → length wb0′ ≡ length wb0 → length around′ ≡ length around
+    {w n : ℕ} {parent sync place order hb writes readers wb0 wb0′ wb over at po other around around′ detour out out′ : List ℕ}
+    → length wb0′ ≡ length wb0 → length around′ ≡ length around → OutRoom n out′
     → ScRoom w n parent sync place order hb writes readers wb0 wb over at po other around detour out
-    → ScRoom w n parent sync place order hb writes readers wb0′ wb over at po other around′ detour out
-sc-room-kept e f p =
+    → ScRoom w n parent sync place order hb writes readers wb0′ wb over at po other around′ detour out′
+sc-room-kept e f answer p =
     let turning = p .turning in record {
       turning = record {
         parents = turning .parents;
@@ -151,7 +152,7 @@ sc-room-kept e f p =
       for-wb = p .for-wb;
       for-over = p .for-over;
       for-layers = room-kept f (p .for-layers);
-      for-out = p .for-out;
+      for-out = answer;
     }
 
 module _ {t : Table} {n : ℕ} {parent arm source sync place kind order : List ℕ} (c : Columns t n parent arm source sync place kind order) where

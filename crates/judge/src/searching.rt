@@ -31,6 +31,9 @@ ghost use Rattle.judge.specs.Answer.{Roomy};
 ghost use Rattle.judge.specs.Rooms.{Rooms, Outs, Based, Conflicting, FoundInConflict, Rounding, FoundCycles};
 ghost use Rattle.judge.specs.Parts.{FoundAll};
 
+// How many rows of places there are: one for each of 32, and one for none.
+const PLACES: usize = 33;
+
 // What was found of the findings that two records in conflict show.
 struct InConflict {
     a2: Found,
@@ -63,10 +66,25 @@ fn find_in_conflict(
 {
     if relates_any(cf, w, n) {
         let a2 = find_before_in_conflict(hb, cf, shows, w, n);
-        let a3 = find_sources_in_conflict(parent, arm, source, readers, hb, below, arms, conflicting, shows, w, n);
+        let a3 = find_sources_in_conflict(
+            parent,
+            arm,
+            source,
+            readers,
+            hb,
+            below,
+            arms,
+            conflicting,
+            shows,
+            w,
+            n,
+        );
         InConflict { a2: a2, a3: a3 }
     } else {
-        InConflict { a2: Found::Nothing, a3: Found::Nothing }
+        InConflict {
+            a2: Found::Nothing,
+            a3: Found::Nothing,
+        }
     }
 }
 
@@ -101,7 +119,27 @@ fn find_cycles(
     lay_writes(parent, sync, kind, source, place, writes, owners, wb0, w, n);
     let back = goes_back(wb0, w, n);
     let a1 = find_write_cycle(wb0, back, around, first, w, n);
-    let a4 = find_sc_cycle(parent, sync, place, order, hb, writes, readers, wb0, back, wb, over, at, po, other, around, detour, second, w, n);
+    let a4 = find_sc_cycle(
+        parent,
+        sync,
+        place,
+        order,
+        hb,
+        writes,
+        readers,
+        wb0,
+        back,
+        wb,
+        over,
+        at,
+        po,
+        other,
+        around,
+        detour,
+        second, // the cycle of A4
+        w,
+        n,
+    );
     Cycles { a1: a1, a4: a4 }
 }
 
@@ -138,8 +176,44 @@ fn find_each(
     let racing = find_racing_writes(kind, race, shows, w, n);
     let a5 = find_token_taken_twice(kind, source, cf, readers, shows, w, n);
     sorted(source, readers, w, n, n);
-    let pairs = find_in_conflict(parent, arm, source, readers, hb, cf, below, arms, own, shows, w, n);
-    let cycles = find_cycles(parent, source, sync, place, kind, order, hb, writes, readers, owners, wb0, below, arms, at, own, race, shows, cf, first, second, w, n);
+    let pairs = find_in_conflict(
+        parent,
+        arm,
+        source,
+        readers,
+        hb,
+        cf,
+        below,
+        arms,
+        own,
+        shows,
+        w,
+        n,
+    );
+    let cycles = find_cycles(
+        parent,
+        source,
+        sync,
+        place,
+        kind,
+        order,
+        hb,
+        writes,
+        readers,
+        owners,
+        wb0,
+        below,
+        arms,
+        at,
+        own,
+        race,
+        shows,
+        cf,
+        first,
+        second,
+        w,
+        n,
+    );
     let a1 = cycles.a1;
     let a2 = pairs.a2;
     let a3 = pairs.a3;
@@ -186,9 +260,60 @@ fn find_in(
     let mut kind = [0u8; LIMIT];
     let mut order = [0u8; LIMIT];
     let mut na = [0u64; 4];
-    read(table, n, &mut parent, &mut arm, &mut source, &mut sync, &mut place, &mut kind, &mut order);
-    lay(&parent, &arm, &sync, &place, &kind, &order, own, below, arms, &mut na, hb, cf, writes, race, w, n);
-    find_each(&parent, &arm, &source, &sync, &place, &kind, &order, hb, writes, cf, race, own, below, arms, readers, shows, owners, wb0, at, first, second, w, n)
+    read(
+        table,
+        n,
+        &mut parent,
+        &mut arm,
+        &mut source,
+        &mut sync,
+        &mut place,
+        &mut kind,
+        &mut order,
+    );
+    lay(
+        &parent,
+        &arm,
+        &sync,
+        &place,
+        &kind,
+        &order,
+        own,
+        below,
+        arms,
+        &mut na,
+        hb,
+        cf,
+        writes,
+        race,
+        w,
+        n,
+    );
+    find_each(
+        &parent,
+        &arm,
+        &source,
+        &sync,
+        &place,
+        &kind,
+        &order,
+        hb,
+        writes,
+        cf,
+        race,
+        own,
+        below,
+        arms,
+        readers,
+        shows,
+        owners,
+        wb0,
+        at,
+        first,
+        second,
+        w,
+        n,
+    )
 }
 
 // In room for a small table, a word to a row: less is to be cleared.
@@ -206,9 +331,27 @@ fn find_small(table: &[u8], n: usize, first: &mut [u8], second: &mut [u8]) -> Fi
     let mut shows = [0u64; SMALL + 1];
     let mut owners = [0u64; SMALL];
     let mut wb0 = [0u64; SMALL];
-    let mut writes = [0u64; 33];
-    let mut at = [0u64; 33];
-    find_in(table, n, 1, &mut own, &mut hb, &mut cf, &mut below, &mut arms, &mut race, &mut readers, &mut shows, &mut owners, &mut wb0, &mut writes, &mut at, first, second)
+    let mut writes = [0u64; PLACES];
+    let mut at = [0u64; PLACES];
+    find_in(
+        table,
+        n,
+        1,
+        &mut own,
+        &mut hb,
+        &mut cf,
+        &mut below,
+        &mut arms,
+        &mut race,
+        &mut readers,
+        &mut shows,
+        &mut owners,
+        &mut wb0,
+        &mut writes,
+        &mut at,
+        first,
+        second,
+    )
 }
 
 // In room for a middling one, two words to a row.
@@ -226,9 +369,27 @@ fn find_middle(table: &[u8], n: usize, first: &mut [u8], second: &mut [u8]) -> F
     let mut shows = [0u64; 2 * MIDDLE + 2];
     let mut owners = [0u64; 2 * MIDDLE];
     let mut wb0 = [0u64; 2 * MIDDLE];
-    let mut writes = [0u64; 66];
-    let mut at = [0u64; 66];
-    find_in(table, n, 2, &mut own, &mut hb, &mut cf, &mut below, &mut arms, &mut race, &mut readers, &mut shows, &mut owners, &mut wb0, &mut writes, &mut at, first, second)
+    let mut writes = [0u64; 2 * PLACES];
+    let mut at = [0u64; 2 * PLACES];
+    find_in(
+        table,
+        n,
+        2,
+        &mut own,
+        &mut hb,
+        &mut cf,
+        &mut below,
+        &mut arms,
+        &mut race,
+        &mut readers,
+        &mut shows,
+        &mut owners,
+        &mut wb0,
+        &mut writes,
+        &mut at,
+        first,
+        second,
+    )
 }
 
 // In room for any table, four words to a row.
@@ -246,9 +407,27 @@ fn find_large(table: &[u8], n: usize, first: &mut [u8], second: &mut [u8]) -> Fi
     let mut shows = [0u64; 4 * LIMIT + 4];
     let mut owners = [0u64; 4 * LIMIT];
     let mut wb0 = [0u64; 4 * LIMIT];
-    let mut writes = [0u64; 132];
-    let mut at = [0u64; 132];
-    find_in(table, n, 4, &mut own, &mut hb, &mut cf, &mut below, &mut arms, &mut race, &mut readers, &mut shows, &mut owners, &mut wb0, &mut writes, &mut at, first, second)
+    let mut writes = [0u64; 4 * PLACES];
+    let mut at = [0u64; 4 * PLACES];
+    find_in(
+        table,
+        n,
+        4,
+        &mut own,
+        &mut hb,
+        &mut cf,
+        &mut below,
+        &mut arms,
+        &mut race,
+        &mut readers,
+        &mut shows,
+        &mut owners,
+        &mut wb0,
+        &mut writes,
+        &mut at,
+        first,
+        second,
+    )
 }
 
 // The same, with room of its own.

@@ -1,5 +1,6 @@
 -- `searching::find_cycles` meets its contract: wb0 is laid, and the cycles of both relations are searched for.
 use mathlib.Core.Path.{_∙_}
+use native.Mathlib.Omega.{arith}
 use borrow.Author.Needs.{needs}
 use Rattle.rows.proofs.Rows.{room-kept}
 use Rattle.judge.proofs.Grounds.{sequenced, sc-room-kept}
@@ -32,7 +33,7 @@ find-write-cycle-requires c κs =
     let back = c .before .before .before in
     let laid = laid-at back in
     let p = entry laid .pre in
-    (record { matrix = room-kept (laid .lay-writes .kept .1 .1 .1 .1 .1 .1 .1 .0) (p .1 .for-wb0); room = p .1 .for-layers; answer = p .2 }, back .goes-back .ensures)
+    (record { matrix = room-kept (laid .lay-writes .kept .1 .1 .1 .1 .1 .1 .1 .0) (p .1 .for-wb0); room = p .1 .for-layers; answer = record { few = p .2 .few; room = omega (arith, p .2 .room, p .1 .for-out .room) } }, back .goes-back .ensures)
 
 find-sc-cycle-requires : tie.Need-find-sc-cycle-requires
 find-sc-cycle-requires c κs =
@@ -40,7 +41,7 @@ find-sc-cycle-requires c κs =
     let back = back-at found in
     let laid = laid-at back in
     let p = entry laid .pre in (
-      sc-room-kept (laid .lay-writes .kept .1 .1 .1 .1 .1 .1 .1 .0) (found .find-write-cycle .kept .1 .1 .0) (p .1),
+      sc-room-kept (laid .lay-writes .kept .1 .1 .1 .1 .1 .1 .1 .0) (found .find-write-cycle .kept .1 .1 .0) (record { few = p .2 .few; room = omega (arith, p .2 .room, p .1 .for-out .room) }) (p .1),
       back .goes-back .ensures,
       (p .3 .0, sequenced (p .3 .1) (laid .lay-writes .ensures _ (p .3 .1 .writing) .holds)),
     )
@@ -53,9 +54,6 @@ wb0-kept c = laid-at (back-at (found-at (steps-at c))) .lay-writes .kept .1 .1 .
 
 around-kept : tie.Need-same-length-8
 around-kept c = steps-at c .find-sc-cycle .kept .1 .1 .1 .1 .1 .1 .1 .1 .1 .1 .1 .1 .1 .1 .0 ∙ found-at (steps-at c) .find-write-cycle .kept .1 .1 .0
-
-first-kept : tie.Need-same-length-10
-first-kept c = found-at (steps-at c) .find-write-cycle .kept .1 .1 .1 .0
 
 returns : tie.Need-returns
 returns c = λ t g.
@@ -72,4 +70,4 @@ find-cycles-spec =
     tie.close
     (tie.spec (λ c κs. c .before .before .before .before .before .before .before .before .before .before .before .before .before .before .before .before .before .before .before .before .before .before .pre .0) goes-back-requires find-write-cycle-requires find-sc-cycle-requires owners-kept wb0-kept
     (λ c. steps-at c .find-sc-cycle .kept .1 .1 .1 .1 .1 .1 .1 .1 .1 .0) (λ c. steps-at c .find-sc-cycle .kept .1 .1 .1 .1 .1 .1 .1 .1 .1 .1 .0) (λ c. steps-at c .find-sc-cycle .kept .1 .1 .1 .1 .1 .1 .1 .1 .1 .1 .1 .0) (λ c. steps-at c .find-sc-cycle .kept .1 .1 .1 .1 .1 .1 .1 .1 .1 .1 .1 .1 .0)
-    (λ c. steps-at c .find-sc-cycle .kept .1 .1 .1 .1 .1 .1 .1 .1 .1 .1 .1 .1 .1 .0) around-kept (λ c. steps-at c .find-sc-cycle .kept .1 .1 .1 .1 .1 .1 .1 .1 .1 .1 .1 .1 .1 .1 .1 .0) first-kept (λ c. steps-at c .find-sc-cycle .kept .1 .1 .1 .1 .1 .1 .1 .1 .1 .1 .1 .1 .1 .1 .1 .1 .0) returns)
+    (λ c. steps-at c .find-sc-cycle .kept .1 .1 .1 .1 .1 .1 .1 .1 .1 .1 .1 .1 .1 .0) around-kept (λ c. steps-at c .find-sc-cycle .kept .1 .1 .1 .1 .1 .1 .1 .1 .1 .1 .1 .1 .1 .1 .1 .0) (λ c. search needs) (λ c. search needs) returns)

@@ -42,10 +42,11 @@ find-read-requires c κs =
       },
     )
 
+-- room for rows, whichever they are: what they hold is asked at the end
 find-racing-writes-requires : tie.Need-find-racing-writes-requires
 find-racing-writes-requires c κs =
     let (rooms, outs, (t, g)) = entry (c .before .before) .pre in
-    (g .columns .kinds .long, rooms .for-race, rooms .for-shows)
+    (g .columns .kinds .long, search (rooms .for-race, rooms .for-cf), rooms .for-shows)
 
 find-token-taken-twice-requires : tie.Need-find-token-taken-twice-requires
 find-token-taken-twice-requires c κs =

@@ -9,6 +9,12 @@ use Rattle.judge.proofs.searching.find_in_conflict.Tie as tie
 abbrev entry : tie.After-slice-known4 → tie.Start
 entry c = c .before .before .before .before .before .before .before .before .before .before
 
+-- room for rows, whichever they are: what they hold is asked where nothing is found
+relates-any-requires : tie.Need-relates-any-requires
+relates-any-requires c κs =
+    let p = entry c .pre in
+    search (p .0 .for-readers, p .1)
+
 find-before-in-conflict-requires : tie.Need-find-before-in-conflict-requires
 find-before-in-conflict-requires c κs =
     let p = entry (c .before .before .before) .pre in
@@ -44,4 +50,4 @@ returns-2 c = λ t g. none-in-conflict g (denied (c .before .relates-any .ensure
 pub find-in-conflict-spec : {M : Type 1} → statement M
 find-in-conflict-spec =
     tie.close
-    (tie.spec (λ c κs. entry c .pre .1) find-before-in-conflict-requires find-sources-in-conflict-requires (λ c. search needs) (λ c. search needs) (λ c. search needs) (λ c. search needs) returns returns-2)
+    (tie.spec relates-any-requires find-before-in-conflict-requires find-sources-in-conflict-requires (λ c. search needs) (λ c. search needs) (λ c. search needs) (λ c. search needs) returns returns-2)
