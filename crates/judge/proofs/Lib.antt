@@ -1,5 +1,5 @@
 -- From what the searches find to the report, and from the report to the answer.
-pub mod Found
+pub mod Grounds
 pub mod Reporting
 pub mod Answering
 pub mod Unique

@@ -1,79 +1,97 @@
-// The least witness of each finding of a sound table, searched for in its relations.
-use closure::by_stages::close;
-use closure::by_stages::gather;
-use closure::rising::rise;
-use combined::race::races;
-use combined::sequential::among;
-use combined::sequential::detours;
-use combined::sequential::elsewhere;
-use combined::writes::handed_on;
+// The least witness of each finding of a sound table, searched for in rows of its relations.
+use basis::lay;
+use columns::read;
 use cycle::goes_back;
-use cycle::least_cycle;
 use findings::Findings;
 use findings::Found;
 use limits::LIMIT;
+use limits::MIDDLE;
 use limits::SMALL;
-use pairs::asked::meet;
-use pairs::asked::meet_led;
-use pairs::asked::of_codes;
-use pairs::asked::tokens;
-use pairs::least::least_pair;
-use rows::row::has;
-use rows::row::put;
-use rows::row::row;
-use rows::set::both;
-use rows::set::is_empty;
-use rows::set::nothing;
-use rows::whole::clear;
-use rows::whole::copy;
-use rows::whole::each_itself;
 use rows::whole::relates_any;
 use rows::whole::sorted;
-use spread::apart::apart;
-use spread::forks::forks;
-use spread::onward::along;
-use spread::onward::before;
-use spread::onward::onward;
+use seeking::pair::find_before_in_conflict;
+use seeking::pair::find_racing_writes;
+use seeking::pair::find_sources_in_conflict;
+use seeking::pair::find_token_taken_twice;
+use seeking::reads::find_read;
+use seeking::sequential::find_sc_cycle;
+use seeking::writes::find_write_cycle;
+use seeking::writes::lay_writes;
+ghost use Prim.Native.Nat.{_≤_};
+ghost use Rattle.limits.specs.Limit.{small, middle};
+ghost use Rattle.model.specs.Table.{Table};
+ghost use Rattle.rows.specs.Rows.{Room};
+ghost use Rattle.combined.specs.Writes.{HandingRoom};
+ghost use Rattle.cycle.specs.Rounds.{OutRoom};
+ghost use Rattle.table.specs.Events.{eventsOf};
+ghost use Rattle.facts.specs.Sound.{Counted};
+ghost use Rattle.seeking.specs.Pairs.{SourceRoom};
+ghost use Rattle.seeking.specs.Sequential.{ScRoom};
+ghost use Rattle.judge.specs.Answer.{Roomy};
+ghost use Rattle.judge.specs.Rooms.{Rooms, Outs, Based, Conflicting, FoundInConflict, Rounding, FoundCycles};
+ghost use Rattle.judge.specs.Parts.{FoundAll};
 
-// Whether the read b is not justified.
-fn unjustified(kind: &[u8], source: &[u8], place: &[u8], at: &[u64], hb: &[u64], race: &[u64], w: usize, b: usize) -> bool {
-    if kind[b] % 2 == 0 {
-        return false;
-    }
-    let raced = !is_empty(row(race, w, b));
-    let s = source[b] as usize;
-    if s < b {
-        return !has(hb, w, s, b) | raced;
-    }
-    !is_empty(both(row(hb, w, b), row(at, w, place[b] as usize))) & !raced
+// How many rows of places there are: one for each of 32, and one for none.
+const PLACES: usize = 33;
+
+// What was found of the findings that two records in conflict show.
+struct InConflict {
+    a2: Found,
+    a3: Found,
 }
 
-// R: the least read that is not justified.
-fn find_read(kind: &[u8], source: &[u8], place: &[u8], at: &[u64], hb: &[u64], race: &[u64], w: usize, n: usize) -> Found {
-    for b in 0..n {
-        if unjustified(kind, source, place, at, hb, race, w, b) {
-            return Found::Record(b);
+// What was found of the findings that a cycle shows.
+struct Cycles {
+    a1: Found,
+    a4: Found,
+}
+
+// A2 and A3. Where no records conflict there is nothing to be found. `below`, `arms`, `conflicting` and `shows` are room to work in.
+fn find_in_conflict(
+    parent: &[u8],
+    arm: &[u8],
+    source: &[u8],
+    readers: &[u64],
+    hb: &[u64],
+    cf: &[u64],
+    below: &mut [u64],
+    arms: &mut [u64],
+    conflicting: &mut [u64],
+    shows: &mut [u64],
+    w: usize,
+    n: usize,
+) -> InConflict
+    requires { ⌜ SourceRoom w n (now parent) (now arm) (now source) (now readers) (now hb) (now below) (now arms) (now conflicting) (now shows) × Room w n n (now cf) ⌝ }
+    ensures { λ x. ⌜ ((t : Table) → Conflicting t w n (now (parent .entry)) (now (arm .entry)) (now (source .entry)) (now (readers .entry)) (now (hb .entry)) (now (cf .entry)) → FoundInConflict t x) ⌝ }
+{
+    if relates_any(cf, w, n) {
+        let a2 = find_before_in_conflict(hb, cf, shows, w, n);
+        let a3 = find_sources_in_conflict(
+            parent,
+            arm,
+            source,
+            readers,
+            hb,
+            below,
+            arms,
+            conflicting,
+            shows,
+            w,
+            n,
+        );
+        InConflict { a2: a2, a3: a3 }
+    } else {
+        InConflict {
+            a2: Found::Nothing,
+            a3: Found::Nothing,
         }
     }
-    Found::Nothing
 }
 
-// wb, and the readers of what is wb before each.
-fn close_writes(back: bool, kind: &[u8], place: &[u8], order: &[u8], at: &[u64], readers: &[u64], wb0: &[u64], wb: &mut [u64], over: &mut [u64], w: usize, n: usize) {
-    if back {
-        copy(wb0, wb, w, n);
-        close(place, at, wb, w, n, 33);
-        gather(order, 4, readers, wb, over, w, n);
-    } else {
-        let mut left = [0u64; 4];
-        rise(wb0, readers, wb, over, &mut left, w, n);
-    }
-}
-
-// A4, in the rows of the steps among SC records.
-fn find_sc(
-    back: bool,
+// A1 and A4: wb0, its least cycle, and that of the steps among SC records. What is lent from `owners` to `detour` is room to work in.
+fn find_cycles(
     parent: &[u8],
+    source: &[u8],
     sync: &[u8],
     place: &[u8],
     kind: &[u8],
@@ -81,8 +99,8 @@ fn find_sc(
     hb: &[u64],
     writes: &[u64],
     readers: &[u64],
-    orders: &[u64],
-    wb0: &[u64],
+    owners: &mut [u64],
+    wb0: &mut [u64],
     wb: &mut [u64],
     over: &mut [u64],
     at: &mut [u64],
@@ -90,31 +108,128 @@ fn find_sc(
     other: &mut [u64],
     around: &mut [u64],
     detour: &mut [u64],
+    first: &mut [u8],
     second: &mut [u8],
     w: usize,
     n: usize,
-) -> Found {
-    close_writes(back, kind, place, order, writes, readers, wb0, wb, over, w, n);
-    sorted(place, at, w, n, 32);
-    put(at, w, 32, nothing());
-    along(parent, po, w, n);
-    elsewhere(place, po, at, other, w, n);
-    onward(parent, sync, other, around, w, n);
-    detours(parent, place, other, around, detour, w, n);
-    among(order, place, orders, at, hb, detour, wb, over, po, w, n);
-    least_cycle(po, w, n, around, second)
+) -> Cycles
+    requires { ⌜ HandingRoom w n (now parent) (now sync) (now kind) (now source) (now place) (now writes) (now owners) (now wb0) × ScRoom w n (now parent) (now sync) (now place) (now order) (now hb) (now writes) (now readers) (now wb0) (now wb) (now over) (now at) (now po) (now other) (now around) (now detour) (now second) × OutRoom n (now first) × ((t : Table) × Rounding t w n (now parent) (now sync) (now kind) (now source) (now place) (now order) (now hb) (now writes) (now readers)) ⌝ }
+    ensures { λ x. ⌜ ((t : Table) → Rounding t w n (now (parent .entry)) (now (sync .entry)) (now (kind .entry)) (now (source .entry)) (now (place .entry)) (now (order .entry)) (now (hb .entry)) (now (writes .entry)) (now (readers .entry)) → FoundCycles t (now (first .entry)) (now (first .exit)) (now (second .entry)) (now (second .exit)) x) ⌝ }
+{
+    lay_writes(parent, sync, kind, source, place, writes, owners, wb0, w, n);
+    let back = goes_back(wb0, w, n);
+    let a1 = find_write_cycle(wb0, back, around, first, w, n);
+    let a4 = find_sc_cycle(
+        parent,
+        sync,
+        place,
+        order,
+        hb,
+        writes,
+        readers,
+        wb0,
+        back,
+        wb,
+        over,
+        at,
+        po,
+        other,
+        around,
+        detour,
+        second, // the cycle of A4
+        w,
+        n,
+    );
+    Cycles { a1: a1, a4: a4 }
 }
 
-fn lay_conflict(parent: &[u8], arm: &[u8], own: &mut [u64], below: &mut [u64], arms: &mut [u64], cf: &mut [u64], w: usize, n: usize) {
-    if forks(arm, n) {
-        each_itself(own, w, n);
-        apart(parent, arm, own, below, arms, cf, w, n);
-    } else {
-        clear(cf, w, n, n);
+// Each finding, from the columns and from what was laid. A room is lent again where what stands in it is no longer asked for.
+fn find_each(
+    parent: &[u8],
+    arm: &[u8],
+    source: &[u8],
+    sync: &[u8],
+    place: &[u8],
+    kind: &[u8],
+    order: &[u8],
+    hb: &[u64],
+    writes: &[u64],
+    cf: &mut [u64],
+    race: &mut [u64],
+    own: &mut [u64],
+    below: &mut [u64],
+    arms: &mut [u64],
+    readers: &mut [u64],
+    shows: &mut [u64],
+    owners: &mut [u64],
+    wb0: &mut [u64],
+    at: &mut [u64],
+    first: &mut [u8],
+    second: &mut [u8],
+    w: usize,
+    n: usize,
+) -> Findings
+    requires { ⌜ Rooms w n (now own) (now hb) (now cf) (now below) (now arms) (now race) (now readers) (now shows) (now owners) (now wb0) (now writes) (now at) × Outs n (now first) (now second) × ((t : Table) × Based t w n (now parent) (now arm) (now source) (now sync) (now place) (now kind) (now order) (now hb) (now cf) (now writes) (now race)) ⌝ }
+    ensures { λ x. ⌜ ((t : Table) → Based t w n (now (parent .entry)) (now (arm .entry)) (now (source .entry)) (now (sync .entry)) (now (place .entry)) (now (kind .entry)) (now (order .entry)) (now (hb .entry)) (now (cf .entry)) (now (writes .entry)) (now (race .entry)) → FoundAll t (now (first .entry)) (now (first .exit)) (now (second .entry)) (now (second .exit)) x) ⌝ }
+{
+    let r = find_read(kind, source, place, writes, hb, race, w, n);
+    let racing = find_racing_writes(kind, race, shows, w, n);
+    let a5 = find_token_taken_twice(kind, source, cf, readers, shows, w, n);
+    sorted(source, readers, w, n, n);
+    let pairs = find_in_conflict(
+        parent,
+        arm,
+        source,
+        readers,
+        hb,
+        cf,
+        below,
+        arms,
+        own,
+        shows,
+        w,
+        n,
+    );
+    let cycles = find_cycles(
+        parent,
+        source,
+        sync,
+        place,
+        kind,
+        order,
+        hb,
+        writes,
+        readers,
+        owners,
+        wb0,
+        below,
+        arms,
+        at,
+        own,
+        race,
+        shows,
+        cf,
+        first,
+        second,
+        w,
+        n,
+    );
+    let a1 = cycles.a1;
+    let a2 = pairs.a2;
+    let a3 = pairs.a3;
+    let a4 = cycles.a4;
+    Findings {
+        r: r,
+        a1: a1,
+        a2: a2,
+        a3: a3,
+        a4: a4,
+        a5: a5,
+        w: racing,
     }
 }
 
-// In lent room.
+// The same from the table's bytes, in lent room: rows of w words.
 fn find_in(
     table: &[u8],
     n: usize,
@@ -133,7 +248,10 @@ fn find_in(
     at: &mut [u64],
     first: &mut [u8],
     second: &mut [u8],
-) -> Findings {
+) -> Findings
+    requires { ⌜ Counted (now table) n × Roomy (now first) (now second) × Rooms w n (now own) (now hb) (now cf) (now below) (now arms) (now race) (now readers) (now shows) (now owners) (now wb0) (now writes) (now at) ⌝ }
+    ensures { λ x. ⌜ FoundAll (eventsOf (now (table .entry))) (now (first .entry)) (now (first .exit)) (now (second .entry)) (now (second .exit)) x ⌝ }
+{
     let mut parent = [0u8; LIMIT];
     let mut arm = [0u8; LIMIT];
     let mut source = [0u8; LIMIT];
@@ -142,102 +260,186 @@ fn find_in(
     let mut kind = [0u8; LIMIT];
     let mut order = [0u8; LIMIT];
     let mut na = [0u64; 4];
-    let mut orders = [0u64; 20];
-    columns::read(table, n, &mut parent, &mut arm, &mut source, &mut sync, &mut place, &mut kind, &mut order);
-    before(&parent, &sync, hb, w, n);
-    lay_conflict(&parent, &arm, own, below, arms, cf, w, n);
-    races(&place, &kind, &order, hb, cf, writes, &mut na, race, w, n);
-    let r = find_read(&kind, &source, &place, writes, hb, race, w, n);
-    of_codes(&kind, 2, race, shows, w, n);
-    let wp = least_pair(shows, w, n);
-    tokens(&kind, &source, cf, readers, shows, w, n);
-    let a5 = least_pair(shows, w, n);
-    sorted(&source, readers, w, n, n);
-    let mut a2 = Found::Nothing;
-    let mut a3 = Found::Nothing;
-    if relates_any(cf, w, n) {
-        meet(hb, cf, shows, w, n);
-        a2 = least_pair(shows, w, n);
-        apart(&parent, &arm, readers, below, arms, own, w, n);
-        meet_led(&source, hb, own, shows, w, n);
-        a3 = least_pair(shows, w, n);
-    }
-    handed_on(&parent, &sync, &kind, &source, &place, writes, owners, wb0, w, n);
-    let back = goes_back(wb0, w, n);
-    let mut a1 = Found::Nothing;
-    if back {
-        a1 = least_cycle(wb0, w, n, shows, first);
-    }
-    sorted(&order, &mut orders, w, n, 5);
-    let mut a4 = Found::Nothing;
-    if !is_empty(row(&orders, w, 4)) {
-        a4 = find_sc(back, &parent, &sync, &place, &kind, &order, hb, writes, readers, &orders, wb0, below, arms, at, own, race, shows, cf, second, w, n);
-    }
-    Findings {
-        r: r,
-        a1: a1,
-        a2: a2,
-        a3: a3,
-        a4: a4,
-        a5: a5,
-        w: wp,
-    }
+    read(
+        table,
+        n,
+        &mut parent,
+        &mut arm,
+        &mut source,
+        &mut sync,
+        &mut place,
+        &mut kind,
+        &mut order,
+    );
+    lay(
+        &parent,
+        &arm,
+        &sync,
+        &place,
+        &kind,
+        &order,
+        own,
+        below,
+        arms,
+        &mut na,
+        hb,
+        cf,
+        writes,
+        race,
+        w,
+        n,
+    );
+    find_each(
+        &parent,
+        &arm,
+        &source,
+        &sync,
+        &place,
+        &kind,
+        &order,
+        hb,
+        writes,
+        cf,
+        race,
+        own,
+        below,
+        arms,
+        readers,
+        shows,
+        owners,
+        wb0,
+        at,
+        first,
+        second,
+        w,
+        n,
+    )
 }
 
-fn find_small(table: &[u8], n: usize, first: &mut [u8], second: &mut [u8]) -> Findings {
-    let mut own = [0u64; 64];
-    let mut hb = [0u64; 64];
-    let mut cf = [0u64; 64];
-    let mut below = [0u64; 64];
-    let mut arms = [0u64; 64];
-    let mut race = [0u64; 64];
-    let mut readers = [0u64; 64];
-    let mut shows = [0u64; 65];
-    let mut owners = [0u64; 64];
-    let mut wb0 = [0u64; 64];
-    let mut writes = [0u64; 33];
-    let mut at = [0u64; 33];
-    find_in(table, n, 1, &mut own, &mut hb, &mut cf, &mut below, &mut arms, &mut race, &mut readers, &mut shows, &mut owners, &mut wb0, &mut writes, &mut at, first, second)
+// In room for a small table, a word to a row: less is to be cleared.
+fn find_small(table: &[u8], n: usize, first: &mut [u8], second: &mut [u8]) -> Findings
+    requires { ⌜ Counted (now table) n × Roomy (now first) (now second) × (n ≤ small) ⌝ }
+    ensures { λ x. ⌜ FoundAll (eventsOf (now (table .entry))) (now (first .entry)) (now (first .exit)) (now (second .entry)) (now (second .exit)) x ⌝ }
+{
+    let mut own = [0u64; SMALL];
+    let mut hb = [0u64; SMALL];
+    let mut cf = [0u64; SMALL];
+    let mut below = [0u64; SMALL];
+    let mut arms = [0u64; SMALL];
+    let mut race = [0u64; SMALL];
+    let mut readers = [0u64; SMALL];
+    let mut shows = [0u64; SMALL + 1];
+    let mut owners = [0u64; SMALL];
+    let mut wb0 = [0u64; SMALL];
+    let mut writes = [0u64; PLACES];
+    let mut at = [0u64; PLACES];
+    find_in(
+        table,
+        n,
+        1,
+        &mut own,
+        &mut hb,
+        &mut cf,
+        &mut below,
+        &mut arms,
+        &mut race,
+        &mut readers,
+        &mut shows,
+        &mut owners,
+        &mut wb0,
+        &mut writes,
+        &mut at,
+        first,
+        second,
+    )
 }
 
-fn find_middle(table: &[u8], n: usize, first: &mut [u8], second: &mut [u8]) -> Findings {
-    let mut own = [0u64; 256];
-    let mut hb = [0u64; 256];
-    let mut cf = [0u64; 256];
-    let mut below = [0u64; 256];
-    let mut arms = [0u64; 256];
-    let mut race = [0u64; 256];
-    let mut readers = [0u64; 256];
-    let mut shows = [0u64; 258];
-    let mut owners = [0u64; 256];
-    let mut wb0 = [0u64; 256];
-    let mut writes = [0u64; 66];
-    let mut at = [0u64; 66];
-    find_in(table, n, 2, &mut own, &mut hb, &mut cf, &mut below, &mut arms, &mut race, &mut readers, &mut shows, &mut owners, &mut wb0, &mut writes, &mut at, first, second)
+// In room for a middling one, two words to a row.
+fn find_middle(table: &[u8], n: usize, first: &mut [u8], second: &mut [u8]) -> Findings
+    requires { ⌜ Counted (now table) n × Roomy (now first) (now second) × (n ≤ middle) ⌝ }
+    ensures { λ x. ⌜ FoundAll (eventsOf (now (table .entry))) (now (first .entry)) (now (first .exit)) (now (second .entry)) (now (second .exit)) x ⌝ }
+{
+    let mut own = [0u64; 2 * MIDDLE];
+    let mut hb = [0u64; 2 * MIDDLE];
+    let mut cf = [0u64; 2 * MIDDLE];
+    let mut below = [0u64; 2 * MIDDLE];
+    let mut arms = [0u64; 2 * MIDDLE];
+    let mut race = [0u64; 2 * MIDDLE];
+    let mut readers = [0u64; 2 * MIDDLE];
+    let mut shows = [0u64; 2 * MIDDLE + 2];
+    let mut owners = [0u64; 2 * MIDDLE];
+    let mut wb0 = [0u64; 2 * MIDDLE];
+    let mut writes = [0u64; 2 * PLACES];
+    let mut at = [0u64; 2 * PLACES];
+    find_in(
+        table,
+        n,
+        2,
+        &mut own,
+        &mut hb,
+        &mut cf,
+        &mut below,
+        &mut arms,
+        &mut race,
+        &mut readers,
+        &mut shows,
+        &mut owners,
+        &mut wb0,
+        &mut writes,
+        &mut at,
+        first,
+        second,
+    )
 }
 
-fn find_large(table: &[u8], n: usize, first: &mut [u8], second: &mut [u8]) -> Findings {
-    let mut own = [0u64; 800];
-    let mut hb = [0u64; 800];
-    let mut cf = [0u64; 800];
-    let mut below = [0u64; 800];
-    let mut arms = [0u64; 800];
-    let mut race = [0u64; 800];
-    let mut readers = [0u64; 800];
-    let mut shows = [0u64; 804];
-    let mut owners = [0u64; 800];
-    let mut wb0 = [0u64; 800];
-    let mut writes = [0u64; 132];
-    let mut at = [0u64; 132];
-    find_in(table, n, 4, &mut own, &mut hb, &mut cf, &mut below, &mut arms, &mut race, &mut readers, &mut shows, &mut owners, &mut wb0, &mut writes, &mut at, first, second)
+// In room for any table, four words to a row.
+fn find_large(table: &[u8], n: usize, first: &mut [u8], second: &mut [u8]) -> Findings
+    requires { ⌜ Counted (now table) n × Roomy (now first) (now second) ⌝ }
+    ensures { λ x. ⌜ FoundAll (eventsOf (now (table .entry))) (now (first .entry)) (now (first .exit)) (now (second .entry)) (now (second .exit)) x ⌝ }
+{
+    let mut own = [0u64; 4 * LIMIT];
+    let mut hb = [0u64; 4 * LIMIT];
+    let mut cf = [0u64; 4 * LIMIT];
+    let mut below = [0u64; 4 * LIMIT];
+    let mut arms = [0u64; 4 * LIMIT];
+    let mut race = [0u64; 4 * LIMIT];
+    let mut readers = [0u64; 4 * LIMIT];
+    let mut shows = [0u64; 4 * LIMIT + 4];
+    let mut owners = [0u64; 4 * LIMIT];
+    let mut wb0 = [0u64; 4 * LIMIT];
+    let mut writes = [0u64; 4 * PLACES];
+    let mut at = [0u64; 4 * PLACES];
+    find_in(
+        table,
+        n,
+        4,
+        &mut own,
+        &mut hb,
+        &mut cf,
+        &mut below,
+        &mut arms,
+        &mut race,
+        &mut readers,
+        &mut shows,
+        &mut owners,
+        &mut wb0,
+        &mut writes,
+        &mut at,
+        first,
+        second,
+    )
 }
 
-pub fn find_all(table: &[u8], n: usize, first: &mut [u8], second: &mut [u8]) -> Findings {
+// The same, with room of its own.
+pub fn find_all(table: &[u8], n: usize, first: &mut [u8], second: &mut [u8]) -> Findings
+    requires { ⌜ Counted (now table) n × Roomy (now first) (now second) ⌝ }
+    ensures { λ x. ⌜ FoundAll (eventsOf (now (table .entry))) (now (first .entry)) (now (first .exit)) (now (second .entry)) (now (second .exit)) x ⌝ }
+{
     if n <= SMALL {
-        return find_small(table, n, first, second);
+        find_small(table, n, first, second)
+    } else if n <= MIDDLE {
+        find_middle(table, n, first, second)
+    } else {
+        find_large(table, n, first, second)
     }
-    if n <= 128 {
-        return find_middle(table, n, first, second);
-    }
-    find_large(table, n, first, second)
 }

@@ -8,3 +8,7 @@ limit = 200
 -- how many a small one has at most; no answer depends on it
 abbrev pub small : ℕ
 small = 64
+
+-- how many a middling one has at most; no answer depends on it
+abbrev pub middle : ℕ
+middle = 128

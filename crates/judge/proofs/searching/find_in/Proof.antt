@@ -1,56 +1,116 @@
--- `searching::find_in` meets its contract: each finding by the search that asks for it.
+-- `searching::find_in` meets its contract: the columns are read, what the searches stand on is laid, and each finding is searched for.
+use mathlib.Core.Path.{refl, sym, _∙_}
 use native.Mathlib.Omega.{arith}
-use borrow.Author.Needs.{needs}
-use Rattle.findings.specs.declared.Finding.the-variants.{R, A1, A2, A3, A4, A5, W}
-use Rattle.model.proofs.Within.{wb0-within, sc-step-within}
-use Rattle.facts.proofs.Records.{formed, within-count, few}
-use Rattle.judge.proofs.Found.{pairs-found, cycle-found}
+use Rattle.rows.proofs.Rows.{room-kept}
+use Rattle.facts.proofs.Records.{few}
+use Rattle.judge.proofs.Grounds.{placed, laying, based, outs}
 use Rattle.judge.proofs.searching.find_in.Statement.{statement}
 use Rattle.judge.proofs.searching.find_in.Tie as tie
 
--- the way back from the second pair: by the first cycle and the read to the entry
-abbrev first-cycle : tie.After-find-pair2 → tie.After-least-cycle
-first-cycle c = c .before .before .before .before
+-- back from each call to the one before it
+abbrev entry : tie.After-read → tie.Start
+entry c = c .before .before .before .before .before .before .before .before .before .before .before .before .before .before .before .before .before .before .before .before .before .before .before
 
-abbrev the-read : tie.After-find-pair2 → tie.After-find-read
-the-read c = first-cycle c .before .before
+abbrev read-at : tie.After-lay → tie.After-read
+read-at c = c .before .before .before .before .before .before .before .before .before .before .before .before .before .before .before .before .before .before .before .before .before .before
 
-abbrev entry : tie.After-find-pair2 → tie.Start
-entry c = the-read c .before .before .before .before .before .before .before .before .before
+abbrev laid-at : tie.After-find-each → tie.After-lay
+laid-at c = c .before .before .before .before .before .before .before .before .before .before .before .before .before .before .before .before .before .before .before .before .before .before .before .before .before .before .before .before .before .before .before .before .before .before .before .before .before
 
-least-cycle-requires-2 : tie.Need-least-cycle-requires-2
-least-cycle-requires-2 c κs =
-    let (counted, pairing, lending) = entry (c .before) .pre in
-    (few counted, lending .by-steps .room, omega (arith, lending .room-first, lending .room-second))
+abbrev each-at : tie.After-slice-known33 → tie.After-find-each
+each-at c = c .before .before .before .before .before .before .before .before .before .before .before .before .before .before .before .before .before .before .before .before .before .before .before .before
 
-find-pair-requires-4 : tie.Need-find-pair-requires-4
-find-pair-requires-4 c κs =
-    let (counted, pairing, lending) = entry (c .before .before .before .before .before) .pre in
-    (counted, pairing)
+read-requires : tie.Need-read-requires
+read-requires c κs =
+    let counted = c .before .before .before .before .before .before .before .before .before .before .before .before .before .before .before .before .before .before .before .before .before .before .pre .0 in
+    let low = few counted in
+    (counted, record { for-parent = low; for-arm = low; for-source = low; for-sync = low; for-place = low; for-kind = low; for-order = low })
+
+lay-requires : tie.Need-lay-requires
+lay-requires c κs =
+    let read = c .before .before .before .before .before .before .before .before .before .before .before .before .before .before .before .before .before .before .before .before .before in
+    let rooms = entry read .pre .2 in
+    let columns = read .read .ensures in
+    let hb = rooms .for-hb in (
+      record {
+        parents = columns .parents .long;
+        all-arms = columns .arms .long;
+        for-own = rooms .for-own;
+        for-below = rooms .for-below;
+        for-arms = rooms .for-arms;
+        for-cf = rooms .for-cf;
+      },
+      record {
+        syncs = columns .syncs .long;
+        placed = placed (columns .known) (columns .places);
+        kinds = columns .kinds .long;
+        orders = columns .orders .long;
+        for-na = record { width = hb .width; wide = hb .wide; room = omega (arith, hb .width .most) };
+        for-hb = hb;
+        for-at = rooms .for-writes;
+        for-race = rooms .for-race;
+      },
+    )
+
+find-each-requires : tie.Need-find-each-requires
+find-each-requires c κs =
+    let laid = c .before .before .before .before .before .before .before .before .before .before .before .before .before .before .before .before .before .before .before .before .before .before .before .before .before .before .before .before .before .before .before .before .before .before .before .before in
+    let read = read-at laid in
+    let (counted, roomy, rooms) = entry read .pre in
+    let columns = read .read .ensures in (
+      record {
+        for-own = room-kept (laid .lay .kept .1 .1 .1 .1 .1 .1 .0) (rooms .for-own);
+        for-hb = room-kept (laid .lay .kept .1 .1 .1 .1 .1 .1 .1 .1 .1 .1 .0) (rooms .for-hb);
+        for-cf = room-kept (laid .lay .kept .1 .1 .1 .1 .1 .1 .1 .1 .1 .1 .1 .0) (rooms .for-cf);
+        for-below = room-kept (laid .lay .kept .1 .1 .1 .1 .1 .1 .1 .0) (rooms .for-below);
+        for-arms = room-kept (laid .lay .kept .1 .1 .1 .1 .1 .1 .1 .1 .0) (rooms .for-arms);
+        for-race = room-kept (laid .lay .kept .1 .1 .1 .1 .1 .1 .1 .1 .1 .1 .1 .1 .1 .0) (rooms .for-race);
+        for-readers = rooms .for-readers;
+        for-shows = rooms .for-shows;
+        for-layers = rooms .for-layers;
+        for-owners = rooms .for-owners;
+        for-wb0 = rooms .for-wb0;
+        for-writes = room-kept (laid .lay .kept .1 .1 .1 .1 .1 .1 .1 .1 .1 .1 .1 .1 .0) (rooms .for-writes);
+        for-at = rooms .for-at;
+      },
+      outs (few counted) roomy,
+      (_, based columns (laid .lay .ensures _ (laying columns))),
+    )
 
 returns : tie.Need-returns
 returns c =
-    let second-cycle = c .before .before .before .before in
-    let pairs = second-cycle .before .before in
-    let (counted, pairing, lending) = entry pairs .pre in
-    let cycle-of-writes = cycle-found (within-count counted (wb0-within (formed counted))) (lending .by-wb0) (first-cycle pairs .least-cycle .ensures) in
-    let cycle-of-steps = cycle-found (within-count counted (sc-step-within (formed counted))) (lending .by-steps) (second-cycle .«least-cycle2» .ensures) in
-    record {
-      each = λ f. elim f [
-        | R ↦ the-read pairs .find-read .ensures
-        | A1 ↦ cycle-of-writes .finds
-        | A2 ↦ pairs-found (pairs .before .find-pair .ensures)
-        | A3 ↦ pairs-found (pairs .«find-pair2» .ensures)
-        | A4 ↦ cycle-of-steps .finds
-        | A5 ↦ pairs-found (c .before .«find-pair3» .ensures)
-        | W ↦ pairs-found (c .«find-pair4» .ensures)
-      ];
-      first = cycle-of-writes .bytes;
-      second = cycle-of-steps .bytes;
-    }
+    let laid = laid-at (each-at c) in
+    let columns = read-at laid .read .ensures in
+    each-at c .find-each .ensures _ (based columns (laid .lay .ensures _ (laying columns)))
 
 pub find-in-spec : {M : Type 1} → statement M
 find-in-spec =
     tie.close
-    (tie.spec (λ c κs. search needs) (λ c κs. search needs) (λ c κs. search needs) (λ c κs. search needs) least-cycle-requires-2 (λ c κs. search needs)
-    find-pair-requires-4 (λ c. search needs) (λ c. search needs) returns)
+    (tie.spec (λ c. refl) (λ c. refl) (λ c. refl) (λ c. refl) (λ c. refl) (λ c. refl) (λ c. refl) read-requires
+    (λ c. sym (c .before .before .before .before .before .before .before .before .read .kept .1 .1 .0))
+    (λ c. sym (c .before .before .before .before .before .before .before .before .before .read .kept .1 .1 .1 .0))
+    (λ c. sym (c .before .before .before .before .before .before .before .before .before .before .read .kept .1 .1 .1 .1 .1 .0))
+    (λ c. sym (c .before .before .before .before .before .before .before .before .before .before .before .read .kept .1 .1 .1 .1 .1 .1 .0))
+    (λ c. sym (c .before .before .before .before .before .before .before .before .before .before .before .before .read .kept .1 .1 .1 .1 .1 .1 .1 .0))
+    (λ c. sym (c .before .before .before .before .before .before .before .before .before .before .before .before .before .read .kept .1 .1 .1 .1 .1 .1 .1 .1 .0)) (λ c. refl) lay-requires
+    (λ c. sym (read-at (c .before .before .before .before .before .before .before .before .before .before .before .before .before .before .before .before) .read .kept .1 .1 .0))
+    (λ c. sym (read-at (c .before .before .before .before .before .before .before .before .before .before .before .before .before .before .before .before .before) .read .kept .1 .1 .1 .0))
+    (λ c. sym (read-at (c .before .before .before .before .before .before .before .before .before .before .before .before .before .before .before .before .before .before) .read .kept .1 .1 .1 .1 .0))
+    (λ c. sym (read-at (c .before .before .before .before .before .before .before .before .before .before .before .before .before .before .before .before .before .before .before) .read .kept .1 .1 .1 .1 .1 .0))
+    (λ c. sym (read-at (c .before .before .before .before .before .before .before .before .before .before .before .before .before .before .before .before .before .before .before .before) .read .kept .1 .1 .1 .1 .1 .1 .0))
+    (λ c. sym (read-at (c .before .before .before .before .before .before .before .before .before .before .before .before .before .before .before .before .before .before .before .before .before) .read .kept .1 .1 .1 .1 .1 .1 .1 .0))
+    (λ c. sym (read-at (c .before .before .before .before .before .before .before .before .before .before .before .before .before .before .before .before .before .before .before .before .before .before) .read .kept .1 .1 .1 .1 .1 .1 .1 .1 .0)) find-each-requires
+    (λ c. each-at c .find-each .kept .1 .1 .1 .1 .1 .1 .1 .1 .1 .1 .1 .0 ∙ laid-at (each-at c) .lay .kept .1 .1 .1 .1 .1 .1 .0)
+    (λ c. laid-at (each-at c) .lay .kept .1 .1 .1 .1 .1 .1 .1 .1 .1 .1 .0)
+    (λ c. each-at c .find-each .kept .1 .1 .1 .1 .1 .1 .1 .1 .1 .0 ∙ laid-at (each-at c) .lay .kept .1 .1 .1 .1 .1 .1 .1 .1 .1 .1 .1 .0)
+    (λ c. each-at c .find-each .kept .1 .1 .1 .1 .1 .1 .1 .1 .1 .1 .1 .1 .0 ∙ laid-at (each-at c) .lay .kept .1 .1 .1 .1 .1 .1 .1 .0)
+    (λ c. each-at c .find-each .kept .1 .1 .1 .1 .1 .1 .1 .1 .1 .1 .1 .1 .1 .0 ∙ laid-at (each-at c) .lay .kept .1 .1 .1 .1 .1 .1 .1 .1 .0)
+    (λ c. each-at c .find-each .kept .1 .1 .1 .1 .1 .1 .1 .1 .1 .1 .0 ∙ laid-at (each-at c) .lay .kept .1 .1 .1 .1 .1 .1 .1 .1 .1 .1 .1 .1 .1 .0)
+    (λ c. each-at c .find-each .kept .1 .1 .1 .1 .1 .1 .1 .1 .1 .1 .1 .1 .1 .1 .0)
+    (λ c. each-at c .find-each .kept .1 .1 .1 .1 .1 .1 .1 .1 .1 .1 .1 .1 .1 .1 .1 .0)
+    (λ c. each-at c .find-each .kept .1 .1 .1 .1 .1 .1 .1 .1 .1 .1 .1 .1 .1 .1 .1 .1 .0)
+    (λ c. each-at c .find-each .kept .1 .1 .1 .1 .1 .1 .1 .1 .1 .1 .1 .1 .1 .1 .1 .1 .1 .0)
+    (λ c. laid-at (each-at c) .lay .kept .1 .1 .1 .1 .1 .1 .1 .1 .1 .1 .1 .1 .0)
+    (λ c. each-at c .find-each .kept .1 .1 .1 .1 .1 .1 .1 .1 .1 .1 .1 .1 .1 .1 .1 .1 .1 .1 .0)
+    (λ c. each-at c .find-each .kept .1 .1 .1 .1 .1 .1 .1 .1 .1 .1 .1 .1 .1 .1 .1 .1 .1 .1 .1 .0)
+    (λ c. each-at c .find-each .kept .1 .1 .1 .1 .1 .1 .1 .1 .1 .1 .1 .1 .1 .1 .1 .1 .1 .1 .1 .1 .0) returns)

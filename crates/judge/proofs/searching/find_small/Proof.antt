@@ -1,17 +1,17 @@
--- `searching::find_small` meets its contract: the local matrices have room for a small table.
-use borrow.Author.Needs.{needs}
-use Rattle.facts.proofs.Records.{square-within}
+-- `searching::find_small` meets its contract: the local arrays have room for a small table.
+use mathlib.Core.Path.{refl}
+use native.Mathlib.Omega.{arith}
+use Rattle.judge.proofs.Grounds.{rooms-lent}
 use Rattle.judge.proofs.searching.find_small.Statement.{statement}
 use Rattle.judge.proofs.searching.find_small.Tie as tie
 
-find-within-requires : tie.Need-find-within-requires
-find-within-requires c κs =
-    let (counted, roomy, low) = c .before .before .before .before .before .before .before .before .before .before .before .before .pre in
-    let room = square-within low in
-    (counted, roomy, record { for-po = room; for-cf = room; for-hb = room; for-race = room; for-wb0 = room; for-wb = room; for-sc = room })
+find-in-requires : tie.Need-find-in-requires
+find-in-requires c κs =
+    let (counted, roomy, low) = c .before .before .before .before .before .before .before .before .before .before .before .before .before .before .before .before .before .pre in
+    (counted, roomy, rooms-lent (record { some = omega arith; most = omega arith; not-3 = omega arith }) (omega arith) (omega arith) (omega arith) (omega arith) (omega arith))
 
 pub find-small-spec : {M : Type 1} → statement M
 find-small-spec =
     tie.close
-    (tie.spec (λ c. search needs) (λ c. search needs) (λ c. search needs) (λ c. search needs) (λ c. search needs) (λ c. search needs) (λ c. search needs)
-    find-within-requires (λ c. search needs) (λ c. search needs) (λ c. search needs))
+    (tie.spec (λ c. refl) (λ c. refl) (λ c. refl) (λ c. refl) (λ c. refl) (λ c. refl) (λ c. refl) (λ c. refl) (λ c. refl) (λ c. refl) (λ c. refl) (λ c. refl) find-in-requires
+    (λ c. c .before .before .before .before .before .before .before .before .before .before .before .before .before .before .before .before .find-in .kept .1 .1 .1 .1 .1 .1 .1 .1 .1 .1 .1 .1 .1 .1 .1 .0) (λ c. c .before .before .before .before .before .before .before .before .before .before .before .before .before .before .before .before .find-in .kept .1 .1 .1 .1 .1 .1 .1 .1 .1 .1 .1 .1 .1 .1 .1 .1 .0) (λ c. c .before .before .before .before .before .before .before .before .before .before .before .before .before .before .before .before .find-in .ensures))
