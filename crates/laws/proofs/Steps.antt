@@ -71,4 +71,3 @@ pub record LastStep (R : ℕ → ℕ → Type 0) (a b : ℕ) : Type 0 where
 pub plus-last : {R : ℕ → ℕ → Type 0} {a b : ℕ} → Plus R a b → LastStep R a b
 plus-last {a = a} (one r) = record { from = a; step = r; rest = inl refl }
 plus-last (more {m = m} p r) = record { from = m; step = r; rest = inr p }
-

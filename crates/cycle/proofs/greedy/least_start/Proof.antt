@@ -76,7 +76,7 @@ loop-again c =
       back .steps-back .kept .1 .1 .1 .1 .1 .1 .0 ∙ i .1,
       rest-less (left .drop .ensures) f (i .2),
       ⊎-elim (λ w. rw (w .1, w .2) (start-take (i .2) (back .steps-back .ensures) f (w .0 .taken) (turn .loop-test .taken) (i .3)))
-      (λ w. rw (w .1, w .2) (start-keep (i .2) (back .steps-back .ensures) f (w .0 .left) (i .3))) (tested .if1 .came),
+          (λ w. rw (w .1, w .2) (start-keep (i .2) (back .steps-back .ensures) f (w .0 .left) (i .3))) (tested .if1 .came),
       f .on,
     )
 

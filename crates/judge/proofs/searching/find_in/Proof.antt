@@ -30,7 +30,7 @@ lay-requires : tie.Need-lay-requires
 lay-requires c κs =
     let read = c .before .before .before .before .before .before .before .before .before .before .before .before .before .before .before .before .before .before .before .before .before in
     let rooms = entry read .pre .2 in
-    let columns = read .read .ensures in
+    let columns = read .read .ensures .0 in
     let hb = rooms .for-hb in (
       record {
         parents = columns .parents .long;
@@ -57,7 +57,7 @@ find-each-requires c κs =
     let laid = c .before .before .before .before .before .before .before .before .before .before .before .before .before .before .before .before .before .before .before .before .before .before .before .before .before .before .before .before .before .before .before .before .before .before .before .before in
     let read = read-at laid in
     let (counted, roomy, rooms) = entry read .pre in
-    let columns = read .read .ensures in (
+    let columns = read .read .ensures .0 in (
       record {
         for-own = room-kept (laid .lay .kept .1 .1 .1 .1 .1 .1 .0) (rooms .for-own);
         for-hb = room-kept (laid .lay .kept .1 .1 .1 .1 .1 .1 .1 .1 .1 .1 .0) (rooms .for-hb);
@@ -80,7 +80,7 @@ find-each-requires c κs =
 returns : tie.Need-returns
 returns c =
     let laid = laid-at (each-at c) in
-    let columns = read-at laid .read .ensures in
+    let columns = read-at laid .read .ensures .0 in
     each-at c .find-each .ensures _ (based columns (laid .lay .ensures _ (laying columns)))
 
 pub find-in-spec : {M : Type 1} → statement M
