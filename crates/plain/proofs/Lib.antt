@@ -1,3 +1,4 @@
 -- The laws of the plain engine.
 pub mod Reading
+pub mod Pairing
 pub mod Agrees

@@ -1,2 +1,3 @@
--- What the plain engine's questions on reads tell.
+-- What the plain engine's questions tell.
 pub mod Reads
+pub mod Pairs

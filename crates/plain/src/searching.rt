@@ -13,7 +13,8 @@ ghost use Rattle.model.specs.Findings.{Shows};
 ghost use Rattle.table.specs.Events.{eventsOf};
 ghost use Rattle.facts.specs.Sound.{Counted};
 ghost use Rattle.judge.specs.Answer.{Roomy};
-ghost use Rattle.judge.specs.Parts.{PairShows, FoundAll};
+ghost use Rattle.judge.specs.Parts.{FoundAll};
+ghost use Rattle.plain.specs.Pairs.{PairShows};
 
 // R: the least read that is not justified.
 fn find_read(table: &[u8], n: usize) -> Found

@@ -3,7 +3,7 @@ use native.Mathlib.Omega.{arith}
 use borrow.Author.Needs.{needs}
 use Rattle.findings.specs.declared.Finding.the-variants.{R, A1, A2, A3, A4, A5, W}
 use Rattle.facts.proofs.Records.{few}
-use Rattle.judge.proofs.Found.{pairs-found}
+use Rattle.plain.proofs.Pairing.{pairs-found}
 use Rattle.plain.proofs.searching.find_all.Statement.{statement}
 use Rattle.plain.proofs.searching.find_all.Tie as tie
 

@@ -9,7 +9,7 @@ use Rattle.findings.proofs.Meant.{found-pair, found-no-pair}
 use Rattle.model.proofs.Shown.{pair-within}
 use Rattle.table.specs.Events.{eventsOf}
 use Rattle.facts.proofs.Records.{formed, within-count}
-use Rattle.judge.specs.Parts.{PairShows}
+use Rattle.plain.specs.Pairs.{PairShows}
 use Rattle.plain.proofs.searching.find_pair.Statement.{statement}
 use Rattle.plain.proofs.searching.find_pair.Tie as tie
 
