@@ -26,7 +26,7 @@ fn renumbered_bytes(old: &[u8], numbers: &[u8]) -> [u8; SIZE]
     ensures { result ≡ renumbered_bytes (number_in numbers.now) old.now }
 {
     let mut new = [0u8; SIZE];
-    bytes::copy(old, &mut new);
+    new.copy_from_slice(old);
     new[PARENT] = relinked(numbers, old[PARENT]);
     new[SOURCE] = relinked(numbers, old[SOURCE]);
     new
@@ -38,7 +38,7 @@ fn write_part(out: &mut [u8], n: usize, new: &[u8])
     ensures { out.new ≡ overwritten out.old n new.now }
 {
     let at = SIZE * n;
-    bytes::copy(new, &mut out[at..at + SIZE]);
+    out[at..at + SIZE].copy_from_slice(new);
 }
 
 // Writes record n of the table under its new number.

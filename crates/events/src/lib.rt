@@ -3,7 +3,7 @@ ghost use Rattle.std.specs.Prelude.{◌≡◌};
 ghost use Rattle.events.specs.Words.{acquires, releases, code_of};
 
 // The five orders. NA: not atomic.
-#[derive(Drop)]
+#[derive(Clone, Copy)]
 pub enum Order {
     Na,
     Acq,
@@ -62,14 +62,14 @@ impl Order {
 }
 
 // u (LLVM's undef), or a known number.
-#[derive(Drop)]
+#[derive(Clone, Copy)]
 pub enum Value {
     U,
     Known(u16),
 }
 
 // What happened: each value is held inside the load, store or update it belongs to.
-#[derive(Drop)]
+#[derive(Clone, Copy)]
 pub enum Event {
     Init,
     Load {
@@ -91,14 +91,14 @@ pub enum Event {
 }
 
 // Another record's number, or none.
-#[derive(Drop)]
+#[derive(Clone, Copy)]
 pub enum Link {
     Absent,
     To(u8),
 }
 
 // One line of a table: an event, its thread, and who its parent and its source are.
-#[derive(Drop)]
+#[derive(Clone, Copy)]
 pub struct Record {
     pub thread: u8,
     pub parent: Link,

@@ -3,7 +3,7 @@ ghost use Rattle.std.specs.Prelude.{◌≡◌, ◌<◌, ◌≤◌, [], ◌∷◌
 ghost use Rattle.findings.specs.Family.{all_in_order, finding_at, in_second, name_of, there, found_of};
 
 // The seven findings, in the order of the report.
-#[derive(Drop)]
+#[derive(Clone, Copy)]
 pub enum Finding {
     R,
     A1,
@@ -25,7 +25,7 @@ const IN_ORDER: [Finding; Finding::COUNT] = [
 ];
 
 // What a search finds: nothing, one record, two records, or a cycle of so many, whose records stand in a lent buffer.
-#[derive(Drop)]
+#[derive(Clone, Copy)]
 pub enum Found {
     Nothing,
     Record(usize),
@@ -34,7 +34,7 @@ pub enum Found {
 }
 
 // What was found of each finding.
-#[derive(Drop)]
+#[derive(Clone, Copy)]
 pub struct Findings {
     pub r: Found,
     pub a1: Found,
@@ -45,7 +45,7 @@ pub struct Findings {
     pub w: Found,
 }
 
-#[derive(Drop)]
+#[derive(Clone, Copy)]
 pub enum Verdict {
     Undefined,
     Inconsistent,
@@ -53,7 +53,7 @@ pub enum Verdict {
 }
 
 // A finding's name: the first bytes of two.
-#[derive(Drop)]
+#[derive(Clone, Copy)]
 pub struct Name {
     pub bytes: [u8; 2],
     pub length: usize,

@@ -1,9 +1,9 @@
 // E1 to E11 of documents 01 and 02, larger tables, and the refusals of a judging: what the judge says of each. The lines of `stdout` are
 // worked out by hand: the documents have those of E1 to E11, and for each other table a comment says why.
-mod judging;
+mod said;
 mod tables;
 
-use crate::judging::{say_judging, say_lent};
+use crate::said::{say_judging, say_lent};
 use crate::tables::{judge_changed, judge_large, judge_script};
 use limits::LIMIT;
 use programs::examples;

@@ -3,7 +3,7 @@ ghost use Rattle.std.specs.Prelude.{◌<◌, ◌≤◌};
 ghost use Rattle.limits.specs.Limit.{limit};
 ghost use Rattle.record.specs.Form.{record_size};
 
-use crate::judging::say_judging;
+use crate::said::say_judging;
 use limits::LIMIT;
 use programs::large::Large;
 use programs::script::WIDTH;

@@ -11,6 +11,12 @@ witness_one : (v w : Witness) → AtMost v w → AtMost w v → v ≡ w
 witness_one (a_record m) (a_record n) (records h) (records k) = ap a_record (number_one m n h k)
 witness_one (a_pair p) (a_pair q) (pairs h) (pairs k) = ap a_pair (pair_one p q h k)
 witness_one (a_cycle c) (a_cycle d) (cycles h) (cycles k) = ap a_cycle (cycle_one c d h k)
+witness_one (a_record m) (a_pair q) h _ = elim h [ ]
+witness_one (a_record m) (a_cycle d) h _ = elim h [ ]
+witness_one (a_pair p) (a_record n) h _ = elim h [ ]
+witness_one (a_pair p) (a_cycle d) h _ = elim h [ ]
+witness_one (a_cycle c) (a_record n) h _ = elim h [ ]
+witness_one (a_cycle c) (a_pair q) h _ = elim h [ ]
 
 pub witness_unique : {Shows : Witness → Type 0} {x y : Option Witness} → LeastWitness Shows x → LeastWitness Shows y → x ≡ y
 witness_unique = least_one witness_one

@@ -1,5 +1,5 @@
 // The plain engine: what the judge says of a table, worked out by questions that the table itself answers. No relation is kept.
-mod pairs;
+mod shown;
 mod reads;
 mod searching;
 

@@ -13,7 +13,7 @@ use events::Link;
 use facts::{reads, same_location, source, writes};
 
 // The writes that are looked for: those earlier in the table that race with a record, or those of its location that are hb before it.
-#[derive(Drop)]
+#[derive(Clone, Copy)]
 enum Sought {
     Racing,
     Before,

@@ -9,7 +9,7 @@ ghost use Rattle.judge.specs.Answer.{Roomy};
 ghost use Rattle.judge.specs.Parts.{FoundAll};
 ghost use Rattle.plain.specs.Pairs.{PairShows};
 
-use crate::pairs::shows_pair;
+use crate::shown::shows_pair;
 use crate::reads::unjustified;
 use findings::{Finding, Findings, Found};
 use tracing::cycles::{Steps, least_cycle};

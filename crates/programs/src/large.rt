@@ -6,7 +6,7 @@ use crate::records::{init, load, load_u, root, store};
 use events::{Order, Record};
 use limits::LIMIT;
 
-#[derive(Drop)]
+#[derive(Clone, Copy)]
 pub enum Large {
     Chain,
     Seven,

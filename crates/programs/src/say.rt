@@ -3,7 +3,7 @@ use libc::STDOUT_FILENO;
 use refusals::{Byte, Refusal};
 
 // How a byte is said: as two hexadecimal digits, or as a number.
-#[derive(Drop)]
+#[derive(Clone, Copy)]
 pub enum Form {
     Hex,
     Decimal,

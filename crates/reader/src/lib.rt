@@ -6,7 +6,7 @@ ghost use Rattle.batches.specs.Reading.{bytes_of, place_after};
 
 use batches::Item;
 
-#[derive(Drop)]
+#[derive(Clone, Copy)]
 pub struct Reader<'a> {
     pub batch: &'a [u8],
     pub at: usize,

@@ -3,7 +3,7 @@ ghost use Rattle.std.specs.Prelude.{◌≡◌};
 ghost use Rattle.refusals.specs.Numbers.{fault_number, fault_byte, at, of_record, told};
 
 // What is wrong with a record: refusals 2 to 8. Where a number names one of two bytes it has a case for each; `Rest` holds the least byte at fault.
-#[derive(Drop)]
+#[derive(Clone, Copy)]
 pub enum Fault {
     Mark,
     Kind,
@@ -17,7 +17,7 @@ pub enum Fault {
 }
 
 // Refusals 1 to 15; those with a place carry it.
-#[derive(Drop)]
+#[derive(Clone, Copy)]
 pub enum Refusal {
     Length,
     Record(Fault, usize),
@@ -31,14 +31,14 @@ pub enum Refusal {
 }
 
 // Which byte of a record is named, if one is.
-#[derive(Drop)]
+#[derive(Clone, Copy)]
 pub enum Byte {
     Unnamed,
     Named(usize),
 }
 
 // What is told of a refusal: its number, its place, and the byte of a record.
-#[derive(Drop)]
+#[derive(Clone, Copy)]
 pub struct Told {
     pub number: usize,
     pub place: usize,

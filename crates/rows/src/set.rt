@@ -3,7 +3,7 @@ ghost use Rattle.std.specs.Prelude.{◌⊎◌, ℕ};
 ghost use Rattle.laws.specs.Says.{Says};
 ghost use Rattle.rows.specs.Sets.{In, Is};
 
-#[derive(Drop)]
+#[derive(Clone, Copy)]
 pub struct Set {
     pub first: u64,
     pub second: u64,

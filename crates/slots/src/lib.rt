@@ -25,5 +25,5 @@ pub fn write_at(table: &mut [u8], n: usize, r: Record)
 {
     let new = bytes_of(r);
     let start = SIZE * n;
-    bytes::copy(&new, &mut table[start..start + SIZE]);
+    table[start..start + SIZE].copy_from_slice(&new);
 }

@@ -9,7 +9,7 @@ use findings::Finding;
 pub const NUMBERS: usize = 8;
 
 // The figures over some tables.
-#[derive(Drop)]
+#[derive(Clone, Copy)]
 pub struct Figures {
     pub tables: usize,
     // by number, from 1 on

@@ -10,7 +10,7 @@ pub fn put(out: &mut [u8], at: usize, piece: &[u8]) -> usize
     ensures { Written out.old at piece.now out.new result }
 {
     let end = at + piece.len();
-    bytes::copy(piece, &mut out[at..end]);
+    out[at..end].copy_from_slice(piece);
     end
 }
 

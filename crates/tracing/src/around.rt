@@ -11,7 +11,7 @@ use events::Link;
 use facts::source;
 
 // How the way leads out and in: of a write to what it owns ("w or a reader of w"), or by po≠.
-#[derive(Drop)]
+#[derive(Clone, Copy)]
 pub enum Way {
     Owned,
     Elsewhere,

@@ -18,7 +18,7 @@ use findings::Found;
 use limits::LIMIT;
 
 // The relations of which a cycle is looked for: wb0 for A1, the steps among SC records for A4.
-#[derive(Drop)]
+#[derive(Clone, Copy)]
 pub enum Steps {
     Wb0,
     Sc,
