@@ -1,7 +1,7 @@
 // The plain engine: what the judge says of a table, worked out by questions that the table itself answers. No relation is kept.
-mod shown;
 mod reads;
 mod searching;
+mod shown;
 
 ghost use Rattle.facts.specs.Sound.{Counted};
 ghost use Rattle.judge.specs.Answer.{Roomy, JudgeAnswer};

@@ -9,8 +9,8 @@ ghost use Rattle.judge.specs.Answer.{Roomy};
 ghost use Rattle.judge.specs.Parts.{FoundAll};
 ghost use Rattle.plain.specs.Pairs.{PairShows};
 
-use crate::shown::shows_pair;
 use crate::reads::unjustified;
+use crate::shown::shows_pair;
 use findings::{Finding, Findings, Found};
 use tracing::cycles::{Steps, least_cycle};
 

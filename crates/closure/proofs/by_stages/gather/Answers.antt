@@ -1,0 +1,21 @@
+-- `by_stages::gather` meets its contract: as it is for one word, two, and four.
+use Rattle.rows.proofs.Rows.{four_words}
+use Rattle.closure.proofs.by_stages.gather.Goals as goal
+
+pub gather_by-requires : goal.gather_by-requires
+gather_by-requires c = rw c.if-w-eq1.true at c.requires
+
+pub returns-then-w-eq1 : goal.returns-then-w-eq1
+returns-then-w-eq1 c = rw c.if-w-eq1.true c.gather_by.ensures
+
+pub gather_by-requires-then-w-eq2 : goal.gather_by-requires-then-w-eq2
+gather_by-requires-then-w-eq2 c = rw c.if-w-eq2.true at c.requires
+
+pub returns-then-w-eq2 : goal.returns-then-w-eq2
+returns-then-w-eq2 c = rw c.if-w-eq2.true c.gather_by-then-w-eq2.ensures
+
+pub gather_by-requires-else-w-eq2 : goal.gather_by-requires-else-w-eq2
+gather_by-requires-else-w-eq2 c = let pre = c.requires in rw (four_words pre.1.width c.if-w-eq1.false c.if-w-eq2.false) at pre
+
+pub returns-else-w-eq2 : goal.returns-else-w-eq2
+returns-else-w-eq2 c = rw (four_words c.requires.1.width c.if-w-eq1.false c.if-w-eq2.false) c.gather_by-else-w-eq2.ensures

@@ -1,0 +1,21 @@
+-- `goes_back` meets its contract: as it is for one word, two, and four.
+use Rattle.rows.proofs.Rows.{four_words}
+use Rattle.cycle.proofs.goes_back.Goals as goal
+
+pub goes_back_by-requires : goal.goes_back_by-requires
+goes_back_by-requires c = rw c.if-w-eq1.true at c.requires
+
+pub returns-then-w-eq1 : goal.returns-then-w-eq1
+returns-then-w-eq1 c = rw c.if-w-eq1.true c.goes_back_by.ensures
+
+pub goes_back_by-requires-then-w-eq2 : goal.goes_back_by-requires-then-w-eq2
+goes_back_by-requires-then-w-eq2 c = rw c.if-w-eq2.true at c.requires
+
+pub returns-then-w-eq2 : goal.returns-then-w-eq2
+returns-then-w-eq2 c = rw c.if-w-eq2.true c.goes_back_by-then-w-eq2.ensures
+
+pub goes_back_by-requires-2 : goal.goes_back_by-requires-2
+goes_back_by-requires-2 c = let pre = c.requires in rw (four_words pre.width c.if-w-eq1.false c.if-w-eq2.false) at pre
+
+pub returns : goal.returns
+returns c = rw (four_words c.requires.width c.if-w-eq1.false c.if-w-eq2.false) c.goes_back_by-2.ensures

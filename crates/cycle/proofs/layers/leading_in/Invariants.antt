@@ -1,0 +1,14 @@
+-- `layers::leading_in` meets its contract: the numbers of the row below c are looked at.
+use Prim.Native.Nat.{◌-◌, ◌*◌, ◌<◌}
+use native.Mathlib.Omega.{arith}
+use Rattle.rows.specs.Sets.{Is}
+use Rattle.rows.specs.Rows.{On}
+use Rattle.rows.proofs.Rows.{room_row}
+use Rattle.cycle.proofs.Layering.{EntersBelow, enters_none, enters_more, enters_all}
+use Rattle.cycle.proofs.layers.leading_in.Given as goal
+
+abbrev pub invariant-loop-c : goal.invariant-loop-c
+invariant-loop-c l = Is l.found (EntersBelow l.w l.n l.m l.layers l.e l.c) × (l.c < 64 * l.w → On l.w l.layers l.c l.e)
+
+abbrev pub decreases-loop-c : goal.decreases-loop-c
+decreases-loop-c l = l.n - l.c

@@ -1,0 +1,60 @@
+-- `trim::drop_unfed` meets its contract: what nothing alive leads to is dropped up to b, and what leads to the rest is taken in.
+use mathlib.Core.Path.{◌≡◌, refl, ◌∙◌}
+use mathlib.Core.Logic.{⊎_elim}
+use Prim.Native.Nat.{◌+◌, ◌-◌}
+use native.Mathlib.Omega.{arith}
+use lib.ListN.{length}
+use Rattle.laws.proofs.Says.{said}
+use Rattle.rows.proofs.Rows.{room_row, room_kept}
+use Rattle.rows.proofs.Sets.{both_of}
+use Rattle.cycle.specs.Trimmed.{Feeds}
+use Rattle.cycle.proofs.Trimming.{feeds_none, feeds_drop, feeds_take, feeds_next, feeds_end}
+use Rattle.cycle.proofs.trim.drop_unfed.Goals as goal
+
+-- b was dropped, or what leads to it was taken in
+passed :
+    (c : tie.Joined1 invariant_loop decreases_loop) → let a = (entry c.before).args in
+    (length c.if1.alive ≡ length a.alive.now) × Feeds a.w a.n a.m.now (c.before.before.before.before.before.before.before.loop.b + 1) c.if1.alive c.if1.sources
+passed c =
+    let i = c.before.before.before.before.before.before.before.loop.invariant in
+    let fed = both_of c.before.before.before.before.before.row.ensures c.before.before.before.row2.ensures c.before.before.both.ensures in
+    ⊎_elim
+    (λ w. rw (w.5, w.6) (w.2.ensures.rest.size ∙ i.0, feeds_drop (λ a z. said c.before.is-empty.ensures w.0.taken a (fed.all a z)) w.2.ensures i.1))
+    (λ w. rw (w.2, w.3) (i.0, feeds_take c.before.before.before.before.before.row.ensures w.1.ensures i.1))
+    c.if1.branch
+
+pub loop-b-init : goal.loop-b-init
+loop-b-init c = (refl, feeds_none c.requires.keeps c.next-b.ensures)
+
+pub row-requires : goal.row-requires
+row-requires c = room_row (room_kept c.loop-b.invariant.0 c.requires.has.row) 0 (omega arith)
+
+pub drop-requires : goal.drop-requires
+drop-requires c = let room = c.requires.has.row in
+    record { col = omega (arith, room.wide); room = omega (arith, room.room, c.loop-b.invariant.0) }
+
+pub overflow_add-b : goal.overflow_add-b
+overflow_add-b c = let room = c.requires.has.row in
+    omega (arith, room.wide, room.width.most, c.loop-b-test.true)
+
+pub next-b-requires-in-loop-b : goal.next-b-requires-in-loop-b
+next-b-requires-in-loop-b c = let room = c.requires.has.row in
+    (room_row (room_kept (passed c).0 room) 0 (omega arith), omega (arith, room.wide))
+
+pub loop-b-preserved : goal.loop-b-preserved
+loop-b-preserved c = let (size, fed) = passed c in (size, feeds_next c.next-b-in-loop-b.ensures fed)
+
+pub shape_of-alive : goal.shape_of-alive
+shape_of-alive c = c.loop-b.invariant.0
+
+pub returns : goal.returns
+returns c = feeds_end (omega arith) c.loop-b.invariant.1
+
+pub next-b-requires : goal.next-b-requires
+next-b-requires c = (room_row c.requires.has.row 0 (omega arith), omega arith)
+
+pub row-before-requires : goal.row-before-requires
+row-before-requires c = room_row c.requires.has.matrix c.loop-b.b c.loop-b-test.true
+
+pub loop-b-smaller : goal.loop-b-smaller
+loop-b-smaller c = omega (arith, c.next-b-in-loop-b.ensures.low)

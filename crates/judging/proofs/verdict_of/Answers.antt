@@ -1,0 +1,6 @@
+-- `verdict_of` meets its contract: W's witness, and whether there is any.
+use borrow.Author.Rules.{rules}
+use Rattle.judging.proofs.verdict_of.Goals as goal
+
+pub returns : goal.returns
+returns c = rw (c.there.ensures, c.any_found.ensures) at c.verdict_by.ensures

@@ -1,0 +1,17 @@
+-- `asked::meet` meets its contract: the first i words are those of both.
+use mathlib.Core.Path.{refl}
+use Prim.Native.Nat.{ℕ, ◌*◌, ◌-◌, ◌%◌, ◌≤◌}
+use native.Mathlib.Omega.{arith}
+use lib.Bits.{bit_and}
+use lib.ListN.{length, get_or}
+use Rattle.rows.proofs.Digits.{digit_and}
+use Rattle.rows.proofs.Parts.{Filled, filled_none, filled_more, filled_whole}
+use Rattle.rows.proofs.Rows.{row_bit}
+use Rattle.rows.proofs.Words.{made_words}
+use Rattle.pairs.proofs.asked.meet.Given as goal
+
+abbrev pub invariant-loop-i : goal.invariant-loop-i
+invariant-loop-i l = (l.i ≤ l.n * l.w) × (l.n * l.w ≤ length l.x) × (l.n * l.w ≤ length l.y) × (l.n * l.w ≤ length l.initial.out) × Filled (λ k. bit_and (get_or l.x k 0) (get_or l.y k 0)) 0 l.i l.initial.out l.out
+
+abbrev pub decreases-loop-i : goal.decreases-loop-i
+decreases-loop-i l = l.n * l.w - l.i

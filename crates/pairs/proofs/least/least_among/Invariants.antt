@@ -1,0 +1,29 @@
+-- `least::least_among` meets its contract: the pairs before p, q are passed, and nothing is found until the search is left.
+use mathlib.Core.Path.{◌≡◌, refl, ◌∙◌}
+use mathlib.Core.List.{List}
+use mathlib.Core.Logic.{⊎_elim}
+use Prim.Native.Nat.{ℕ, ◌-◌, ◌<◌, ◌≤◌}
+use native.Mathlib.Omega.{arith}
+use Rattle.laws.proofs.Says.{said, denied}
+use Rattle.laws.proofs.Steps.{Within}
+use Rattle.laws.proofs.Passed.{Passed, passed_none, passed_more, passed_over, passed_row, passed_all, passed_found}
+use Rattle.findings.specs.declared.Found.TheVariants.{Nothing}
+use Rattle.findings.proofs.Meant.{found_pair, found_no_pair}
+use Rattle.rows.specs.Rows.{Cell}
+use Rattle.rows.proofs.Rows.{room_place}
+use Rattle.pairs.proofs.least.least_among.Given as goal
+
+abbrev pub Pair : ℕ → ℕ → List ℕ → ℕ → ℕ → Type 0
+Pair w n m p q = (p < n) × Cell w n m p q
+
+abbrev pub invariant-loop-q : goal.invariant-loop-q
+invariant-loop-q l = (l.q ≤ l.n) × (l.found ≡ Nothing) × Passed (Pair l.w l.n l.m) l.p l.q
+
+abbrev pub decreases-loop-q : goal.decreases-loop-q
+decreases-loop-q l = l.n - l.q
+
+abbrev pub invariant-search : goal.invariant-search
+invariant-search l = (l.p ≤ l.n) × (l.found ≡ Nothing) × Passed (Pair l.w l.n l.m) l.p 0
+
+abbrev pub decreases-search : goal.decreases-search
+decreases-search l = l.n - l.p

@@ -1,0 +1,13 @@
+-- `script::write` is safe and ends: the table keeps its length.
+use mathlib.Core.Path.{◌≡◌}
+use Prim.Native.Nat.{◌-◌, ◌/◌, ◌≤◌}
+use native.Mathlib.Omega.{arith}
+use lib.ListN.{length}
+use borrow.Author.Rules.{rules}
+use Rattle.programs.proofs.script.write.Given as goal
+
+abbrev pub invariant-loop-n : goal.invariant-loop-n
+invariant-loop-n l = (l.n-end ≡ length l.script / 9) × ((l.n ≤ l.n-end) × (length l.out ≡ length l.initial.out))
+
+abbrev pub decreases-loop-n : goal.decreases-loop-n
+decreases-loop-n l = l.n-end - l.n

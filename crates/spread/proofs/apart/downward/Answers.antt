@@ -1,0 +1,21 @@
+-- `apart::downward` meets its contract: as it is for one word, two, and four.
+use Rattle.rows.proofs.Rows.{four_words}
+use Rattle.spread.proofs.apart.downward.Goals as goal
+
+pub downward_by-requires : goal.downward_by-requires
+downward_by-requires c = rw c.if-w-eq1.true at c.requires
+
+pub returns-then-w-eq1 : goal.returns-then-w-eq1
+returns-then-w-eq1 c = rw c.if-w-eq1.true c.downward_by.ensures
+
+pub downward_by-requires-then-w-eq2 : goal.downward_by-requires-then-w-eq2
+downward_by-requires-then-w-eq2 c = rw c.if-w-eq2.true at c.requires
+
+pub returns-then-w-eq2 : goal.returns-then-w-eq2
+returns-then-w-eq2 c = rw c.if-w-eq2.true c.downward_by-then-w-eq2.ensures
+
+pub downward_by-requires-else-w-eq2 : goal.downward_by-requires-else-w-eq2
+downward_by-requires-else-w-eq2 c = let pre = c.requires in rw (four_words pre.2.width c.if-w-eq1.false c.if-w-eq2.false) at pre
+
+pub returns-else-w-eq2 : goal.returns-else-w-eq2
+returns-else-w-eq2 c = rw (four_words c.requires.2.width c.if-w-eq1.false c.if-w-eq2.false) c.downward_by-else-w-eq2.ensures

@@ -1,0 +1,33 @@
+-- `onward::along_by` meets its contract: the first b rows hold one or more steps.
+use Prim.Native.Nat.{◌-◌, ◌≤◌}
+use native.Mathlib.Omega.{arith}
+use Rattle.laws.specs.Steps.{Plus}
+use Rattle.rows.specs.Rows.{Room, Made}
+use Rattle.rows.specs.Steps.{Leads}
+use Rattle.rows.proofs.Rows.{room_row, made_none, made_more, made_whole, made_room, made_row_room}
+use Rattle.spread.proofs.Stepping.{steps_row}
+use Rattle.spread.proofs.onward.along_by.Goals as goal
+
+pub row_before-more-requires : goal.row_before-more-requires
+row_before-more-requires c = let turn = c.loop-b in (omega arith, omega arith, made_room turn.invariant.1 turn.invariant.2)
+
+pub put-requires : goal.put-requires
+put-requires c = let turn = c.loop-b in room_row (made_room turn.invariant.1 turn.invariant.2) turn.b (omega arith)
+
+pub add_led-requires : goal.add_led-requires
+add_led-requires c = let turn = c.loop-b in
+    (omega arith, omega arith, made_row_room (made_room turn.invariant.1 turn.invariant.2) c.put.ensures)
+
+pub loop-b-preserved : goal.loop-b-preserved
+loop-b-preserved c = let turn = c.loop-b in
+    let row = steps_row (λ v l. l.falls) (λ a l. l) (λ a l. l) turn.invariant.2.holds c.row_before-more.ensures c.put.ensures c.add_led.ensures in
+    (omega arith, turn.invariant.1, made_more turn.invariant.2 row)
+
+pub shape_of-out : goal.shape_of-out
+shape_of-out c = c.loop-b.invariant.2.rest.size
+
+pub returns : goal.returns
+returns c = made_whole (omega arith) c.loop-b.invariant.2
+
+pub loop-b-init : goal.loop-b-init
+loop-b-init c = (omega arith, c.requires.1, made_none)

@@ -1,0 +1,17 @@
+-- `table::test` meets its contract: a table of a right length is all of its own first records.
+use mathlib.Core.Path.{refl, sym, ◌∙◌}
+use lib.ListN.{length}
+use borrow.Author.Rules.{rules}
+use Rattle.laws.proofs.Says.{said, denied, says_T}
+use Rattle.table.specs.Test.{length_ok, wrong_length}
+use Rattle.table.proofs.Front.{records_test}
+use Rattle.table.proofs.test.Goals as goal
+
+pub returns-then-length_ok : goal.returns-then-length_ok
+returns-then-length_ok c = let b = c.args.table.now in
+    let right = said (says_T (length_ok (length b))) (sym c.length_ok.ensures ∙ c.if-length_ok.true) in
+    records_test b right c.test_records.ensures
+
+pub returns-else-length_ok : goal.returns-else-length_ok
+returns-else-length_ok c = let b = c.args.table.now in
+    wrong_length (denied (says_T (length_ok (length b))) (sym c.length_ok.ensures ∙ c.if-length_ok.false)) refl

@@ -1,0 +1,9 @@
+-- `cycles::back` meets its contract: the entry of s itself.
+use borrow.Author.Rules.{rules}
+use Rattle.tracing.proofs.StepsBack.{step_low}
+use Rattle.tracing.proofs.Cycling.{back_of}
+use Rattle.tracing.proofs.cycles.back.Goals as goal
+
+pub returns : goal.returns
+returns c = let (table, inside) = c.requires in
+    back_of (step_low c.args.which table) c.steps_to.ensures inside

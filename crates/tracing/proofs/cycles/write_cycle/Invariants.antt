@@ -1,0 +1,19 @@
+-- `cycles::write_cycle` meets its contract: the first i records of the list are written, and what is least from the last makes the whole least.
+use mathlib.Core.Path.{◌≡◌, refl, ◌∙◌}
+use Prim.Native.Nat.{◌+◌, ◌-◌, ◌<◌, ◌≤◌}
+use native.Mathlib.Omega.{arith}
+use lib.ListN.{length, length-set}
+use Rattle.cycle.proofs.Writing.{Writing, writing_first}
+use Rattle.table.specs.Events.{events_of}
+use Rattle.facts.proofs.Records.{few}
+use Rattle.tracing.specs.Layers.{entry}
+use Rattle.tracing.specs.Cycles.{step_of}
+use Rattle.tracing.proofs.StepsBack.{step_low}
+use Rattle.tracing.proofs.Cycling.{next_there, writing_more, writing_end}
+use Rattle.tracing.proofs.cycles.write_cycle.Given as goal
+
+abbrev pub invariant-loop-i : goal.invariant-loop-i
+invariant-loop-i l = (1 ≤ l.i) × (l.i ≤ l.len) × (l.a < l.n) × (entry l.dist l.a + l.i ≡ l.len + 1) × (length l.out ≡ length l.initial.out) × Writing (step_of l.which (events_of l.table)) l.s l.len l.initial.out l.out l.a l.i
+
+abbrev pub decreases-loop-i : goal.decreases-loop-i
+decreases-loop-i l = l.len - l.i

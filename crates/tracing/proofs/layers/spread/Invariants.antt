@@ -1,0 +1,14 @@
+-- `layers::spread` meets its contract: the first x entries are looked at.
+use mathlib.Core.Path.{◌≡◌}
+use Prim.Native.Nat.{◌-◌, ◌≤◌}
+use native.Mathlib.Omega.{arith}
+use borrow.Author.Rules.{rules}
+use Rattle.tracing.specs.Layers.{Spread}
+use Rattle.tracing.proofs.Layering.{spread_none, spread_more}
+use Rattle.tracing.proofs.layers.spread.Given as goal
+
+abbrev pub invariant-loop-x : goal.invariant-loop-x
+invariant-loop-x l = (l.x ≤ l.n) × Spread l.x l.k l.col l.initial.dist l.dist
+
+abbrev pub decreases-loop-x : goal.decreases-loop-x
+decreases-loop-x l = l.n - l.x
