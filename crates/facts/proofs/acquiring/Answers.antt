@@ -1,7 +1,6 @@
 -- `acquiring` meets its contract: what its order says.
 use mathlib.Core.Path.{ap, ◌∙◌}
 use Rattle.events.specs.Words.{acquires}
-use borrow.Author.Rules.{rules}
 use Rattle.facts.proofs.acquiring.Goals as goal
 
 pub returns : goal.returns

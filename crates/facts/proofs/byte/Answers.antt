@@ -1,7 +1,6 @@
 -- `byte` meets its contract: the byte of the table is that of the record.
 use native.Mathlib.Omega.{arith}
 use Rattle.facts.proofs.Bytes.{byte_of_part}
-use borrow.Author.Rules.{rules}
 use Rattle.facts.proofs.byte.Goals as goal
 
 pub returns : goal.returns

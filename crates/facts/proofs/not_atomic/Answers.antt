@@ -4,7 +4,6 @@ use Prim.Native.Nat.{ℕ}
 use lib.Dec.{eqb}
 use Rattle.events.specs.Words.{is_na}
 use Rattle.facts.proofs.Bytes.{na_by_code}
-use borrow.Author.Rules.{rules}
 use Rattle.facts.proofs.not_atomic.Goals as goal
 
 pub returns : goal.returns

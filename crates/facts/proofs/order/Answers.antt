@@ -2,7 +2,6 @@
 use mathlib.Core.Path.{ap, ◌∙◌}
 use Rattle.record.specs.Form.{order_from}
 use Rattle.facts.proofs.Bytes.{order_told}
-use borrow.Author.Rules.{rules}
 use Rattle.facts.proofs.order.Goals as goal
 
 pub returns : goal.returns

@@ -3,7 +3,6 @@ use mathlib.Core.Path.{ap, ◌∙◌}
 use Rattle.events.specs.declared.Record.{Record}
 use Rattle.record.specs.Form.{link_from}
 use Rattle.facts.proofs.Bytes.{field_told}
-use borrow.Author.Rules.{rules}
 use Rattle.facts.proofs.parent.Goals as goal
 
 pub returns : goal.returns

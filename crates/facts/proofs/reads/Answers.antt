@@ -1,6 +1,5 @@
 -- `reads` meets its contract: the kind tells it.
 use Rattle.facts.proofs.Bytes.{reads_told}
-use borrow.Author.Rules.{rules}
 use Rattle.facts.proofs.reads.Goals as goal
 
 pub returns : goal.returns

@@ -1,7 +1,6 @@
 -- `releasing` meets its contract: what its order says.
 use mathlib.Core.Path.{ap, ◌∙◌}
 use Rattle.events.specs.Words.{releases}
-use borrow.Author.Rules.{rules}
 use Rattle.facts.proofs.releasing.Goals as goal
 
 pub returns : goal.returns

@@ -4,7 +4,6 @@ use Prim.Native.Nat.{ℕ}
 use lib.Dec.{eqb}
 use Rattle.events.specs.Words.{is_sc}
 use Rattle.facts.proofs.Bytes.{sc_by_code}
-use borrow.Author.Rules.{rules}
 use Rattle.facts.proofs.sequential.Goals as goal
 
 pub returns : goal.returns

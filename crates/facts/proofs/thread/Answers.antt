@@ -2,7 +2,6 @@
 use mathlib.Core.Path.{◌∙◌}
 use Rattle.events.specs.declared.Record.{Record}
 use Rattle.facts.proofs.Bytes.{field_told}
-use borrow.Author.Rules.{rules}
 use Rattle.facts.proofs.thread.Goals as goal
 
 pub returns : goal.returns

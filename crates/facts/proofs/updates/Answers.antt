@@ -1,6 +1,5 @@
 -- `updates` meets its contract: the kind tells it.
 use Rattle.facts.proofs.Bytes.{updates_told}
-use borrow.Author.Rules.{rules}
 use Rattle.facts.proofs.updates.Goals as goal
 
 pub returns : goal.returns

@@ -1,7 +1,6 @@
 -- `fetch` meets its contract: by what the second question says.
 use mathlib.Core.Path.{◌∙◌}
 use native.Mathlib.Omega.{arith}
-use borrow.Author.Rules.{rules}
 use Rattle.fetch.proofs.Fetching.{fetched_given, fetched_refused, given_below}
 use Rattle.fetch.proofs.fetch.Goals as goal
 

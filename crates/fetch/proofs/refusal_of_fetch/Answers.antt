@@ -1,7 +1,6 @@
 -- `refusal_of_fetch` meets its contract: each way out has the tests that led there.
 use mathlib.Core.Path.{refl, sym, ◌∙◌}
 use lib.ListN.{length}
-use borrow.Author.Rules.{rules}
 use Rattle.laws.proofs.Says.{said, denied, says_T}
 use Rattle.table.specs.Test.{length_ok}
 use Rattle.fetch.specs.Fetched.{given, refused_1, refused_13}

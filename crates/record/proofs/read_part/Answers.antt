@@ -1,6 +1,5 @@
 -- `record::read_part` meets its contract: by what the tests say.
 use mathlib.Core.Path.{sym, ap, ◌∙◌}
-use borrow.Author.Rules.{rules}
 use Rattle.record.specs.declared.rules.ByteTest.{ByteTest}
 use Rattle.record.specs.declared.Decoded.TheVariants.{Good}
 use Rattle.record.specs.Form.{record_from, unless_faulty}

@@ -4,7 +4,6 @@ use Prim.Native.Nat.{ℕ, ◌*◌}
 use native.Mathlib.Nat.{add-sub_cancel_left}
 use lib.ListN.{take, drop}
 use Rattle.record.specs.Form.{decode}
-use borrow.Author.Rules.{rules}
 use Rattle.slots.proofs.read_at.Goals as goal
 
 pub returns : goal.returns

@@ -2,7 +2,6 @@
 use mathlib.Core.Path.{sym, ap, ◌∙◌}
 use Rattle.table.specs.Computed.{checked}
 use Rattle.table.specs.Events.{events_of}
-use borrow.Author.Rules.{rules}
 use Rattle.table.proofs.check_decoded.Goals as goal
 
 pub returns-in-Good : goal.returns-in-Good

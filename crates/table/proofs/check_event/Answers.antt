@@ -1,6 +1,5 @@
 -- `table::check_event` meets its contract: each way out rewrites by the tests that led there.
 use mathlib.Core.Path.{sym, ◌∙◌}
-use borrow.Author.Rules.{rules}
 use Rattle.table.proofs.check_event.Goals as goal
 
 pub returns-then-parent_fault : goal.returns-then-parent_fault

@@ -11,7 +11,6 @@ use Rattle.table.specs.Test.{CheckAnswer}
 use Rattle.table.proofs.Columns.{kept_none}
 use Rattle.table.proofs.Front.{front_stands}
 use Rattle.table.proofs.NewRecord.{new_exact}
-use borrow.Author.Rules.{rules}
 use Rattle.table.proofs.check_new.Goals as goal
 
 pub check_decoded-requires : goal.check_decoded-requires

@@ -1,7 +1,6 @@
 -- `table::test` meets its contract: a table of a right length is all of its own first records.
 use mathlib.Core.Path.{refl, sym, ◌∙◌}
 use lib.ListN.{length}
-use borrow.Author.Rules.{rules}
 use Rattle.laws.proofs.Says.{said, denied, says_T}
 use Rattle.table.specs.Test.{length_ok, wrong_length}
 use Rattle.table.proofs.Front.{records_test}

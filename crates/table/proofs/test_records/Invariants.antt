@@ -1,18 +1,9 @@
 -- `table::test_records` meets its contract: every record below n passes, in the table of the first `count` records.
-use mathlib.Core.Path.{◌≡◌, refl, sym, subst, ap, ◌∙◌}
+use mathlib.Core.Path.{◌≡◌}
 use Prim.Native.Nat.{ℕ, ◌*◌, ◌-◌, ◌<◌, ◌≤◌}
-use native.Mathlib.Omega.{arith}
 use lib.ListN.{length, take}
-use borrow.Author.Count.{below_more}
-use borrow.Author.Rules.{rules}
-use Rattle.table.specs.declared.Tested.TheVariants.{Sound}
-use Rattle.table.specs.Computed.{checked}
-use Rattle.table.specs.Events.{events_of}
 use Rattle.table.specs.Siblings.{Kept}
-use Rattle.table.specs.Test.{Passes, CheckAnswer, first_fault, RecordsAnswer, refused, sound}
-use Rattle.table.proofs.Columns.{kept_first}
-use Rattle.table.proofs.Exact.{passes_of, fault_of}
-use Rattle.table.proofs.Front.{front_count, front_exact, front_stand}
+use Rattle.table.specs.Test.{Passes}
 use Rattle.table.proofs.test_records.Given as goal
 
 abbrev pub invariant-loop-n : goal.invariant-loop-n

@@ -1,16 +1,20 @@
 -- `fields::event_from` meets its contract: each arm by the key that led there, the last by none of them.
-use borrow.Author.Tests.{ne_eqb}
+use borrow.Author.Rules.{rules}
 use Rattle.record.specs.Form.{event_from}
 use Rattle.record.proofs.fields.event_from.Goals as goal
 
 pub returns-in-1 : goal.returns-in-1
+unfolding event_from
 returns-in-1 c = rw c.in-1.is
 
 pub returns-in-2 : goal.returns-in-2
+unfolding event_from
 returns-in-2 c = rw c.in-2.is
 
 pub returns-in-3 : goal.returns-in-3
+unfolding event_from
 returns-in-3 c = rw c.in-3.is
 
 pub returns-in_default : goal.returns-in_default
-returns-in_default c = let m = c.in_default.rest in simp (ne_eqb _ _ m.0.0.1, ne_eqb _ _ m.0.1, ne_eqb _ _ m.1)
+unfolding event_from
+returns-in_default c = search rules

@@ -1,5 +1,4 @@
 -- `fields::record_from` meets its contract: by those of the fields.
-use borrow.Author.Rules.{rules}
 use Rattle.record.proofs.fields.record_from.Goals as goal
 
 pub returns : goal.returns

@@ -1,5 +1,4 @@
 -- `rules::flags_rest` meets its contract: by those of its parts.
-use borrow.Author.Rules.{rules}
 use Rattle.record.proofs.rules.flags_rest.Goals as goal
 
 pub returns : goal.returns

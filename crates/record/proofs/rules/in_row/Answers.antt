@@ -4,7 +4,6 @@ use mathlib.Core.List.{[]}
 use Prim.Native.Nat.{ℕ, zero, suc, ◌+◌, ◌*◌, ◌/◌, ◌%◌, ◌^◌, ◌<◌, ◌≤◌}
 use lib.Dec.{eqb}
 use lib.ListN.{get_or, get_or-eq_default}
-use borrow.Author.Rules.{rules}
 use Rattle.record.specs.Form.{in_row, rows}
 use Rattle.record.proofs.Cases.{four, five}
 use Rattle.record.proofs.rules.in_row.Goals as goal

@@ -1,13 +1,9 @@
 -- `rules::least_restless` meets its contract: every byte before i rests where it should, so that the least is looked for from i on.
 use mathlib.Core.Path.{◌≡◌, refl, sym, ap, ◌∙◌}
 use mathlib.Core.Bool.{Bool, true, false}
-use mathlib.Core.List.{List}
-use Prim.Native.Nat.{ℕ, suc, ◌+◌, ◌-◌, ◌<◌, ◌≤◌}
+use Prim.Native.Nat.{ℕ, suc, ◌+◌, ◌-◌, ◌<◌}
 use native.Mathlib.Omega.{arith}
-use borrow.Author.Rules.{rules}
-use borrow.Author.Tests.{not-true, not-false}
 use Rattle.record.specs.Form.{pick, least_failing, rests_at, least_restless}
-use Rattle.record.proofs.rules.least_restless.Invariants.{LeastFrom}
 use Rattle.record.proofs.rules.least_restless.Goals as goal
 
 -- one byte more is asked
@@ -32,11 +28,11 @@ loop-i-init c = record { from = omega arith; to = omega arith; same = refl }
 
 pub returns-then-not-rests : goal.returns-then-not-rests
 returns-then-not-rests c = let b = c.args.b.now in
-    sym (c.loop-i.invariant.same ∙ failed (rests_at b) c.loop-i.i (omega arith) (sym c.rests.ensures ∙ not-true _ c.if-not-rests.true))
+    sym (c.loop-i.invariant.same ∙ failed (rests_at b) c.loop-i.i (omega arith) (sym c.rests.ensures ∙ c.if-not-rests.true))
 
 pub loop-i-preserved : goal.loop-i-preserved
 loop-i-preserved c = let b = c.args.b.now in
-    let rests = sym c.rests.ensures ∙ not-false _ c.if-not-rests.false in
+    let rests = sym c.rests.ensures ∙ c.if-not-rests.false in
     record { from = omega arith; to = omega arith; same = c.loop-i.invariant.same ∙ passed (rests_at b) c.loop-i.i (omega arith) rests }
 
 pub returns : goal.returns

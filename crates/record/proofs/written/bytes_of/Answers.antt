@@ -1,6 +1,5 @@
 -- `written::bytes_of` meets its contract: by those of the bytes.
 use Rattle.record.specs.Form.{encode}
-use borrow.Author.Rules.{rules}
 use Rattle.record.proofs.written.bytes_of.Goals as goal
 
 pub returns : goal.returns

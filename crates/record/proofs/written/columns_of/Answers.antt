@@ -1,5 +1,4 @@
 -- `written::columns_of` meets its contract: a row of the definition in each arm.
-use borrow.Author.Rules.{rules}
 use Rattle.record.proofs.written.columns_of.Goals as goal
 
 pub returns-in-Init : goal.returns-in-Init

@@ -4,7 +4,6 @@ use Prim.Native.Nat.{ℕ, ◌*◌}
 use native.Mathlib.Nat.{add-sub_cancel_left}
 use lib.ListN.{length, take, drop}
 use Rattle.record.proofs.Parts.{part_length}
-use borrow.Author.Rules.{rules}
 use Rattle.slots.proofs.parts.part_at.Goals as goal
 
 pub returns : goal.returns

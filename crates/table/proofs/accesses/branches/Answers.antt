@@ -1,5 +1,4 @@
 -- `accesses::branches` meets its contract: a row of the definition in each arm.
-use borrow.Author.Rules.{rules}
 use Rattle.table.proofs.accesses.branches.Goals as goal
 
 pub returns-in-Nothing-b : goal.returns-in-Nothing-b

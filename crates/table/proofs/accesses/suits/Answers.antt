@@ -1,5 +1,4 @@
 -- `accesses::suits` meets its contract: a row of the definition in each arm.
-use borrow.Author.Rules.{rules}
 use Rattle.table.proofs.accesses.suits.Goals as goal
 
 pub returns-in-At : goal.returns-in-At

@@ -1,5 +1,4 @@
 -- `accesses::written_by` meets its contract: a row of the definition in each arm.
-use borrow.Author.Rules.{rules}
 use Rattle.table.proofs.accesses.written_by.Goals as goal
 
 pub returns-in-Init : goal.returns-in-Init

@@ -3,7 +3,6 @@ use mathlib.Core.Path.{sym, ◌∙◌}
 use native.Mathlib.Omega.{arith}
 use borrow.Author.Tests.{le-ltb, lt-ltb}
 use Rattle.table.proofs.Standing.{stands_one}
-use borrow.Author.Rules.{rules}
 use Rattle.table.proofs.faults.is_misplaced.Goals as goal
 
 pub returns-then-is_init : goal.returns-then-is_init

@@ -1,5 +1,4 @@
 -- `faults::is_root` meets its contract: by those of its parts.
-use borrow.Author.Rules.{rules}
 use Rattle.table.proofs.faults.is_root.Goals as goal
 
 pub returns : goal.returns

@@ -2,7 +2,6 @@
 use native.Mathlib.Omega.{arith}
 use borrow.Author.Tests.{le-ltb, lt-ltb}
 use Rattle.table.proofs.Standing.{stands_one}
-use borrow.Author.Rules.{rules}
 use Rattle.table.proofs.faults.is_unfit.Goals as goal
 
 pub returns-then-s-n : goal.returns-then-s-n

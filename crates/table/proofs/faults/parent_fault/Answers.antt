@@ -1,7 +1,6 @@
 -- `faults::parent_fault` meets its contract: each way out rewrites by the tests that led there.
 use borrow.Author.Tests.{eq-eqb, ne_eqb}
 use Rattle.table.specs.Computed.{parent_fault}
-use borrow.Author.Rules.{rules}
 use Rattle.table.proofs.faults.parent_fault.Goals as goal
 
 pub returns-then-n-eq0 : goal.returns-then-n-eq0

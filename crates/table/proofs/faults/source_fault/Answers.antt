@@ -1,7 +1,6 @@
 -- `faults::source_fault` meets its contract: each way out rewrites by the arms that led there.
 use mathlib.Core.Path.{sym, ◌∙◌}
 use Rattle.table.specs.Computed.{source_fault}
-use borrow.Author.Rules.{rules}
 use Rattle.table.proofs.faults.source_fault.Goals as goal
 
 pub returns-in-Nothing : goal.returns-in-Nothing

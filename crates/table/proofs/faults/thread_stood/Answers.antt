@@ -1,13 +1,9 @@
 -- `faults::thread_stood` meets its contract: a search below m finds nothing, until it finds the thread.
 use mathlib.Core.Path.{◌≡◌, sym, ap, ◌∙◌}
-use mathlib.Core.Bool.{false}
-use Prim.Native.Nat.{ℕ, ◌-◌, ◌≤◌}
+use Prim.Native.Nat.{ℕ}
 use native.Mathlib.Omega.{arith}
-use borrow.Author.Rules.{rules}
 use borrow.Author.Tests.{ne_eqb, eq-eqb}
 use lib.Dec.{eqb}
-use Rattle.table.specs.Computed.{stood}
-use Rattle.table.specs.Events.{events_of}
 use Rattle.table.proofs.Search.{any_none, any_more, any_found}
 use Rattle.table.proofs.Standing.{stands_one}
 use Rattle.table.proofs.faults.thread_stood.Goals as goal

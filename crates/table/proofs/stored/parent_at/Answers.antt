@@ -5,7 +5,6 @@ use Prim.Native.Nat.{ℕ}
 use Rattle.events.specs.declared.Record.{Record}
 use Rattle.record.specs.Form.{parent_byte, link_from}
 use Rattle.table.proofs.Standing.{part_record}
-use borrow.Author.Rules.{rules}
 use Rattle.table.proofs.stored.parent_at.Goals as goal
 
 pub returns : goal.returns

@@ -1,7 +1,6 @@
 -- `stored::record_at` meets its contract: by those of its two calls.
 use mathlib.Core.Path.{ap, ◌∙◌}
 use Rattle.table.specs.Events.{record_of, events_of}
-use borrow.Author.Rules.{rules}
 use Rattle.table.proofs.stored.record_at.Goals as goal
 
 pub returns : goal.returns

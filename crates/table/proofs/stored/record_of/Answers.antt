@@ -1,5 +1,4 @@
 -- `stored::record_of` meets its contract: a row of the definition in each arm.
-use borrow.Author.Rules.{rules}
 use Rattle.table.proofs.stored.record_of.Goals as goal
 
 pub returns-in-Good : goal.returns-in-Good

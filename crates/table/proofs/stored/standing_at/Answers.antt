@@ -2,7 +2,6 @@
 use mathlib.Core.Path.{ap, ◌∙◌}
 use Rattle.record.specs.Form.{record_from}
 use Rattle.table.proofs.Standing.{part_record}
-use borrow.Author.Rules.{rules}
 use Rattle.table.proofs.stored.standing_at.Goals as goal
 
 pub returns : goal.returns

@@ -3,7 +3,6 @@ use mathlib.Core.Path.{ap, ◌∙◌}
 use Rattle.events.specs.declared.Record.{Record}
 use Rattle.record.specs.Form.{thread_byte}
 use Rattle.table.proofs.Standing.{part_record}
-use borrow.Author.Rules.{rules}
 use Rattle.table.proofs.stored.thread_at.Goals as goal
 
 pub returns : goal.returns

@@ -1,7 +1,6 @@
 -- `twins::is_sibling_twin` meets its contract: the other record is read only where its thread is the same.
 use mathlib.Core.Path.{sym, ◌∙◌}
 use borrow.Author.Tests.{eq-eqb, ne_eqb}
-use borrow.Author.Rules.{rules}
 use Rattle.table.proofs.twins.is_sibling_twin.Goals as goal
 
 pub returns-then-thread_at-new : goal.returns-then-thread_at-new

@@ -3,7 +3,6 @@ use mathlib.Core.Path.{◌≡◌, ap, sym, ◌∙◌}
 use mathlib.Core.Bool.{Bool}
 use Rattle.events.specs.declared.Link.{Link}
 use Rattle.table.specs.Computed.{same_link}
-use borrow.Author.Rules.{rules}
 use Rattle.table.proofs.twins.is_twin.Goals as goal
 
 -- what is asked of a link that was read

@@ -1,12 +1,8 @@
 -- `twins::twin_below` meets its contract: what was found is what a search below m finds.
 use mathlib.Core.Path.{◌≡◌}
-use Prim.Native.Nat.{◌-◌, ◌≤◌}
 use native.Mathlib.Omega.{arith}
-use Rattle.table.specs.Computed.{twin_fault}
-use Rattle.table.specs.Events.{events_of}
 use Rattle.table.proofs.Search.{any_none, any_more}
 use Rattle.table.proofs.Standing.{stands_one}
-use borrow.Author.Rules.{rules}
 use Rattle.table.proofs.twins.twin_below.Goals as goal
 
 pub loop-m-preserved : goal.loop-m-preserved

@@ -3,21 +3,12 @@ use mathlib.Core.Path.{sym, ap, ◌∙◌}
 use native.Mathlib.Omega.{arith}
 use Rattle.laws.proofs.Says.{said}
 use Rattle.events.specs.declared.Link.TheVariants.{To}
-use Rattle.table.proofs.Columns.{Placed, says_placed}
-use borrow.Author.Rules.{rules}
+use Rattle.table.proofs.Columns.{says_placed}
 use Rattle.table.proofs.twins.twin_fault.Goals as goal
-
-placed :
-    (c : tie.Then1) →
-    let a = (entry c.before).args in
-    Placed a.last.now a.older.now c.before.wide.result a.n
-placed c =
-    let a = (entry c.before).args in
-    said (says_placed a.last.now a.older.now c.before.wide.result a.n) c.if1.true
 
 pub twin_among-requires : goal.twin_among-requires
 twin_among-requires c = let kept = c.requires in
-    let here = placed c in
+    let here = said (says_placed c.args.last.now c.args.older.now c.wide-p.result c.args.n) c.if-p-last.true in
     record {
       stand = kept.stand;
       reach = omega (arith, here.room);
@@ -28,4 +19,4 @@ twin_among-requires c = let kept = c.requires in
     }
 
 pub bounds-last-p : goal.bounds-last-p
-bounds-last-p c = (placed c).place
+bounds-last-p c = (said (says_placed c.args.last.now c.args.older.now c.wide-p.result c.args.n) c.if-p-last.true).place
