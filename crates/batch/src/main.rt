@@ -1,4 +1,6 @@
 // Judges the tables of the batch on standard input, writes each answer to standard output as it comes, and then the batch's refusal, if it has one.
+#![tactic(auto)]
+
 ghost use Rattle.std.specs.Prelude.{◌≤◌, length};
 ghost use Rattle.lines.specs.Room.{longest};
 ghost use Rattle.lines.specs.Judged.{judged_text, JudgedWhole};

@@ -1,4 +1,6 @@
 // Appends and cuts of tables of document 01, and what they give: counts, refusals, and every byte written.
+#![tactic(auto)]
+
 mod appends;
 mod cuts;
 mod large_cuts;

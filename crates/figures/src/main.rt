@@ -1,4 +1,6 @@
 // Counts over the batch on standard input, and writes Monday's figures to standard output.
+#![tactic(auto)]
+
 ghost use Rattle.std.specs.Prelude.{◌≤◌, length};
 
 use anyhow::{Context, Result, bail};

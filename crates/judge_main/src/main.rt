@@ -1,5 +1,7 @@
 // E1 to E11 of documents 01 and 02, larger tables, and the refusals of a judging: what the judge says of each. The lines of `stdout` are
 // worked out by hand: the documents have those of E1 to E11, and for each other table a comment says why.
+#![tactic(auto)]
+
 mod said;
 mod tables;
 

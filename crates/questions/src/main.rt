@@ -1,4 +1,6 @@
 // Answers many questions, one after another, for the comparison with the second judge (second/README.md has their form).
+#![tactic(auto)]
+
 mod ask;
 mod input;
 mod run;

@@ -1,4 +1,6 @@
 // The edges of document 01 on tables as bytes, one table for each refusal from 1 to 8, and the fetch: what the code says of them.
+#![tactic(auto)]
+
 ghost use Rattle.std.specs.Prelude.{◌+◌, ◌*◌, ◌<◌, ◌≤◌};
 ghost use Rattle.limits.specs.Limit.{limit};
 ghost use Rattle.record.specs.Form.{record_size};

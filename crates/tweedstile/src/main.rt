@@ -1,4 +1,6 @@
 // Judges the table on standard input, and writes its report to standard output.
+#![tactic(auto)]
+
 ghost use Rattle.std.specs.Prelude.{◌≤◌, length};
 
 use anyhow::{Context, Result, bail};
