@@ -1,6 +1,6 @@
 -- The highest set bit of a word.
 use mathlib.Core.Path.{◌≡◌, sym, ap, subst, ◌∙◌}
-use Prim.Native.Nat.{ℕ, zero, suc, ◌+◌, ◌-◌, ◌*◌, ◌/◌, ◌%◌, ◌^◌, ◌<◌, ◌≤◌}
+use Prim.Native.Nat.{ℕ, suc, ◌+◌, ◌-◌, ◌/◌, ◌%◌, ◌^◌, ◌<◌, ◌≤◌}
 use native.Mathlib.Nat.{div-eq_of_lt, lt_of_lt_of_le, le-div_iff_mul-le, one-mul}
 use native.Mathlib.Numerals.{one-add}
 use native.Mathlib.Decide.{dec_lt}

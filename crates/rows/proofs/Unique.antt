@@ -1,13 +1,12 @@
 -- Two sets, or two matrices, of which the same is said are the same.
-use mathlib.Core.Path.{◌≡◌, refl, sym, ap, ap₂, subst, ◌∙◌}
+use mathlib.Core.Path.{◌≡◌, sym, ap₂, ◌∙◌}
 use mathlib.Core.List.{List}
-use Prim.Native.Nat.{ℕ, zero, suc, ◌+◌, ◌*◌, ◌/◌, ◌%◌, ◌^◌, ◌<◌, ◌≤◌}
+use Prim.Native.Nat.{ℕ, zero, suc, ◌+◌, ◌*◌, ◌/◌, ◌%◌, ◌^◌, ◌<◌}
 use native.Mathlib.Omega.{arith}
-use native.Mathlib.Decide.{dec_lt}
 use lib.ListN.{get_or}
 use Rattle.rows.specs.declared.set.Set.{Set}
 use Rattle.rows.specs.Sets.{digit, word_of, In, Is}
-use Rattle.rows.specs.Rows.{On, Holds, MadeRow, Made}
+use Rattle.rows.specs.Rows.{On, MadeRow}
 use Rattle.rows.proofs.Digits.{Bit, digit_is}
 use Rattle.rows.proofs.Trailing.{half_lt, digit_low, digit_high}
 

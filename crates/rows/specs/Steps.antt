@@ -1,5 +1,5 @@
 -- Steps that columns give. A column has a number for each number b, and leads from it to b where it is lower.
-use Rattle.std.specs.Prelude.{◌≡◌, List, ◌⊎◌, ℕ, ◌<◌, get_or}
+use Rattle.std.specs.Prelude.{◌≡◌, List, ℕ, ◌<◌, get_or}
 use Rattle.laws.specs.Steps.{Rel, Plus}
 
 -- the column leads from a to b

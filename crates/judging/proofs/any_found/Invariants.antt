@@ -1,13 +1,9 @@
 -- `any_found` meets its contract: the findings at the places below `place` have been asked.
-use mathlib.Core.Path.{◌≡◌, refl}
+use mathlib.Core.Path.{◌≡◌}
 use Prim.Native.Nat.{◌-◌, ◌≤◌}
-use native.Mathlib.Omega.{arith}
-use native.Mathlib.Numerals.{add-one}
-use borrow.Author.Rules.{rules}
 use lib.ListN.{length}
 use Rattle.laws.specs.Says.{any_below}
 use Rattle.findings.specs.Family.{all_in_order, finding_at, found_of, there}
-use Rattle.judging.specs.Verdict.{any_found}
 use Rattle.judging.proofs.any_found.Given as goal
 
 abbrev pub invariant-loop-place : goal.invariant-loop-place

@@ -1,5 +1,4 @@
 -- `verdict_of` meets its contract: W's witness, and whether there is any.
-use borrow.Author.Rules.{rules}
 use Rattle.judging.proofs.verdict_of.Goals as goal
 
 pub returns : goal.returns

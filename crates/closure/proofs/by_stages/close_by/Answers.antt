@@ -1,10 +1,6 @@
 -- `by_stages::close_by` meets its contract: after k turns the matrix holds stage k, still within classes.
 use mathlib.Core.Path.{◌≡◌}
-use Prim.Native.Nat.{◌-◌, ◌≤◌}
 use native.Mathlib.Omega.{arith}
-use Rattle.laws.proofs.Closure.{Stage}
-use Rattle.rows.specs.Rows.{Cell, Made}
-use Rattle.closure.specs.Classes.{InClasses}
 use Rattle.closure.proofs.Classed.{classes_kept, stage_none, stage_more, stage_all}
 use Rattle.closure.proofs.by_stages.close_by.Goals as goal
 

@@ -1,5 +1,4 @@
 -- `by_stages::close_stage` meets its contract: where nothing leads to k nothing goes by way of it.
-use borrow.Author.Rules.{rules}
 use Rattle.laws.proofs.Says.{said}
 use Rattle.rows.proofs.Rows.{room_row}
 use Rattle.closure.proofs.Classed.{never_through}

@@ -1,13 +1,12 @@
 -- `by_stages::close_through` meets its contract: the rows below b that have k have taken in row k.
-use mathlib.Core.Logic.{◌⊎◌, ⊎_elim}
-use Prim.Native.Nat.{◌-◌}
+use mathlib.Core.Logic.{⊎_elim}
 use native.Mathlib.Omega.{arith}
 use Rattle.laws.proofs.Says.{said, denied}
-use Rattle.rows.specs.Rows.{Cell, Made}
 use Rattle.rows.proofs.Sets.{either_of}
 use Rattle.rows.proofs.Rows.{room_row, made_room, made_row_is}
-use Rattle.closure.proofs.Classed.{Passed, passed_first, passed_joined, passed_kept, passed_next, passed_all}
+use Rattle.closure.proofs.Classed.{passed_first, passed_joined, passed_kept, passed_next, passed_all}
 use Rattle.closure.proofs.by_stages.close_through.Goals as goal
+use Rattle.closure.proofs.by_stages.close_through.Goals.{then-has, else-has}
 
 pub row-via-requires : goal.row-via-requires
 row-via-requires c = let pre = c.requires in room_row pre.1.for_m _ pre.0
@@ -44,12 +43,13 @@ loop-b-preserved c = let low = c.loop-b-test.true in
     let has = c.has.ensures in
     let via = c.row-via.ensures in
     passed_next c.requires.1 c.next-b-in-loop-b.ensures
-    (⊎_elim
-    (λ w.
-    rw w.8
-    (passed_joined c.requires.1 low c.loop-b.invariant c.requires.0 (said has w.0.taken)
-    (made_row_is (either_of w.2.ensures via w.3.ensures) (λ a. ⊎_elim (λ o. o.col) (λ o. o.col)) w.5.ensures)))
-    (λ w. rw w.1 (passed_kept c.requires.1 low c.loop-b.invariant (denied has w.0.left))) c.if-has.branch)
+    (elim c.if-has.branch [
+      | then-has w ↦
+          rw w.m-is
+          (passed_joined c.requires.1 low c.loop-b.invariant c.requires.0 (said has w.if-has.true)
+          (made_row_is (either_of w.row.ensures via w.either-joined.ensures) (λ a. ⊎_elim (λ o. o.col) (λ o. o.col)) w.put.ensures))
+      | else-has w ↦ rw w.m-is (passed_kept c.requires.1 low c.loop-b.invariant (denied has w.if-has.false))
+    ])
 
 pub returns : goal.returns
 returns c = passed_all c.loop-b-test.false c.loop-b.invariant

@@ -1,12 +1,7 @@
 -- `by_stages::close_through` meets its contract: the rows below b that have k have taken in row k.
-use mathlib.Core.Logic.{◌⊎◌, ⊎_elim}
 use Prim.Native.Nat.{◌-◌}
-use native.Mathlib.Omega.{arith}
-use Rattle.laws.proofs.Says.{said, denied}
 use Rattle.rows.specs.Rows.{Cell, Made}
-use Rattle.rows.proofs.Sets.{either_of}
-use Rattle.rows.proofs.Rows.{room_row, made_room, made_row_is}
-use Rattle.closure.proofs.Classed.{Passed, passed_first, passed_joined, passed_kept, passed_next, passed_all}
+use Rattle.closure.proofs.Classed.{Passed}
 use Rattle.closure.proofs.by_stages.close_through.Given as goal
 
 abbrev pub invariant-loop-b : goal.invariant-loop-b

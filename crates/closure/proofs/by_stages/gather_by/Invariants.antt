@@ -1,12 +1,9 @@
 -- `by_stages::gather_by` meets its contract: the first b rows are gathered, or emptied.
 use mathlib.Core.Path.{◌≡◌}
-use mathlib.Core.Logic.{⊎_elim}
 use Prim.Native.Nat.{◌-◌, ◌≤◌}
-use native.Mathlib.Omega.{arith}
 use lib.ListN.{get_or}
 use Rattle.rows.specs.Rows.{On, Cell, Made}
 use Rattle.rows.specs.Steps.{Then}
-use Rattle.rows.proofs.Rows.{room_row, made_none, made_more, made_room, made_row_iff}
 use Rattle.closure.proofs.by_stages.gather_by.Given as goal
 
 abbrev pub invariant-loop-b : goal.invariant-loop-b

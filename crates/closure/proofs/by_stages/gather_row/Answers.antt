@@ -1,10 +1,7 @@
 -- `by_stages::gather_row` meets its contract: what x relates to the numbers of the row below v is gathered.
-use Prim.Native.Nat.{◌-◌, ◌*◌, ◌<◌}
 use native.Mathlib.Omega.{arith}
-use Rattle.rows.specs.Sets.{Is}
-use Rattle.rows.specs.Rows.{On}
 use Rattle.rows.proofs.Rows.{room_row, made_row_is}
-use Rattle.closure.proofs.Gathered.{Gathered, gathered_none, gathered_more, gathered_all}
+use Rattle.closure.proofs.Gathered.{gathered_none, gathered_more, gathered_all}
 use Rattle.closure.proofs.by_stages.gather_row.Goals as goal
 
 pub next-v-requires : goal.next-v-requires

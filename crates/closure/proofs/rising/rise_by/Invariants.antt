@@ -1,13 +1,9 @@
 -- `rising::rise_by` meets its contract: the first b rows are closed.
-use mathlib.Core.Path.{◌≡◌, refl}
-use Prim.Native.Nat.{ℕ, ◌+◌, ◌-◌, ◌<◌, ◌≤◌}
-use native.Mathlib.Omega.{arith}
+use Prim.Native.Nat.{◌-◌, ◌≤◌}
 use Rattle.laws.specs.Steps.{Plus}
 use Rattle.rows.specs.Rows.{On, Cell, Made}
 use Rattle.rows.specs.Steps.{Then}
-use Rattle.rows.proofs.Rows.{made_none, made_more, made_held, made_trans}
 use Rattle.closure.specs.Classes.{Rising}
-use Rattle.closure.proofs.Risen.{rooms_kept}
 use Rattle.closure.proofs.rising.rise_by.Given as goal
 
 abbrev pub invariant-loop-b : goal.invariant-loop-b

@@ -1,8 +1,5 @@
 -- `rising::rise_row` meets its contract: of what steps to b the highest is taken in, until nothing is left.
-use native.Mathlib.Omega.{arith}
-use Rattle.rows.proofs.Sets.{without_of}
-use Rattle.rows.proofs.Rows.{room_row, made_row_room, made_row_is, made_row_trans, made_none, made_more}
-use Rattle.closure.proofs.Risen.{Turn, turns, turn_first, turn_more, turn_less, out_done, over_done, left_done}
+use Rattle.closure.proofs.Risen.{Turn, turns}
 use Rattle.closure.proofs.rising.rise_row.Given as goal
 
 abbrev pub invariant-loop-v : goal.invariant-loop-v

@@ -1,5 +1,5 @@
 -- `rising::take_in` meets its contract: sets joined, and put back.
-use mathlib.Core.Logic.{◌⊎◌, ⊎_elim, ⊎_map}
+use mathlib.Core.Logic.{⊎_elim, ⊎_map}
 use native.Mathlib.Omega.{arith}
 use Rattle.rows.proofs.Sets.{either_of}
 use Rattle.rows.proofs.Rows.{room_row, made_row_room, made_row_is, made_row_iff, made_row_trans}
@@ -27,11 +27,10 @@ pub put-requires-2 : goal.put-requires-2
 put-requires-2 c = let pre = c.requires in room_row pre.3 _ (omega (arith, pre.1))
 
 pub add-requires : goal.add-requires
-add-requires c = let start = entry (c) in
-    let pre = start.pre in
+add-requires c = let pre = c.requires in
     record {
       col = omega (arith, pre.0, pre.1, pre.3.wide);
-      room = (room_row (made_row_room pre.3 c.put-2.ensures) start.args.b pre.1).room;
+      room = (room_row (made_row_room pre.3 c.put-2.ensures) _ pre.1).room;
     }
 
 pub returns : goal.returns

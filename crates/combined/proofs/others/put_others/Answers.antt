@@ -1,6 +1,5 @@
 -- `others::put_others` meets its contract: the set is put, and the row's number dropped.
 use native.Mathlib.Omega.{arith}
-use Rattle.rows.specs.Rows.{HasRow, Place, MadeRow}
 use Rattle.rows.proofs.Rows.{made_row_iff, made_row_trans}
 use Rattle.combined.proofs.others.put_others.Goals as goal
 

@@ -1,15 +1,9 @@
 -- `race::fill_races_by` meets its contract: the first b rows have the races, and what is noted is noted of the numbers below b.
-use mathlib.Core.Path.{◌≡◌}
 use Prim.Native.Nat.{◌-◌, ◌≤◌}
-use native.Mathlib.Omega.{arith}
-use borrow.Author.Count.{falls}
 use lib.ListN.{length}
 use Rattle.rows.specs.Rows.{On, Room, Made}
-use Rattle.rows.proofs.Sets.{is_iff}
-use Rattle.rows.proofs.Rows.{room_row, made_none, made_more, made_row_is, made_room, made_trans, made_never}
-use Rattle.combined.specs.Columns.{Placed, WritesAt, OfOrder}
+use Rattle.combined.specs.Columns.{WritesAt, OfOrder}
 use Rattle.combined.specs.Races.{RacesBefore, RaceRoom}
-use Rattle.combined.proofs.Racing.{races_before, races_from}
 use Rattle.combined.proofs.race.fill_races_by.Given as goal
 
 abbrev pub invariant-loop-b : goal.invariant-loop-b

@@ -1,9 +1,8 @@
 -- `race::note_na` meets its contract: b is NA, or it is not.
-use mathlib.Core.Path.{◌≡◌, refl, sym, ◌∙◌}
+use mathlib.Core.Path.{◌≡◌, sym, ◌∙◌}
 use native.Mathlib.Omega.{arith}
 use Rattle.rows.proofs.Rows.{room_place}
 use Rattle.rows.proofs.Noted.{noted, not_noted}
-use Rattle.combined.specs.Columns.{OfOrder}
 use Rattle.combined.proofs.Racing.{order_up, order_down}
 use Rattle.combined.proofs.race.note_na.Goals as goal
 

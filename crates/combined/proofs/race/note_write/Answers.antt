@@ -1,9 +1,8 @@
 -- `race::note_write` meets its contract: b writes at one place, or at none.
-use mathlib.Core.Path.{◌≡◌, refl, sym}
+use mathlib.Core.Path.{refl, sym}
 use native.Mathlib.Omega.{arith}
 use Rattle.rows.proofs.Rows.{room_place}
 use Rattle.rows.proofs.Noted.{noted, not_noted}
-use Rattle.combined.specs.Columns.{Placed, WritesAt}
 use Rattle.combined.proofs.Racing.{write_up, write_down}
 use Rattle.combined.proofs.race.note_write.Goals as goal
 

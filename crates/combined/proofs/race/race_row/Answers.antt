@@ -1,10 +1,8 @@
 -- `race::race_row` meets its contract: of an NA record all that race, of another those that are NA.
-use mathlib.Core.Path.{◌≡◌}
 use mathlib.Core.Logic.{inl, inr, ⊎_elim}
 use native.Mathlib.Omega.{arith}
 use Rattle.rows.proofs.Sets.{is_iff, both_of, without_of}
 use Rattle.rows.proofs.Rows.{room_row}
-use Rattle.combined.specs.Races.{RacesFrom, RaceRoom}
 use Rattle.combined.proofs.race.race_row.Goals as goal
 
 pub overflow_cast-place : goal.overflow_cast-place
@@ -37,5 +35,5 @@ returns c = let known = without_of
     (without_of c.row-here.ensures c.row.ensures c.without.ensures)
     c.row-2.ensures c.without-racing.ensures in
     is_iff (λ a z. record { here = z.0.0.0; not_atomic = inl z.1; not_before = z.0.0.1; no_conflict = z.0.1 })
-    (λ a r. (((r.here, r.not_before), r.no_conflict), ⊎_elim (λ o. o) (λ e. absurd (c.if-order-b-eq0.false e)) r.not-atomic))
+    (λ a r. (((r.here, r.not_before), r.no_conflict), ⊎_elim (λ o. o) (λ e. absurd (c.if-order-b-eq0.false e)) r.not_atomic))
     (both_of known c.row-3.ensures c.both.ensures)

@@ -1,15 +1,11 @@
 -- `sequential::among_by` meets its contract: the first b rows have the steps among SC records.
 use mathlib.Core.Path.{◌≡◌}
-use mathlib.Core.Logic.{⊎_elim}
-use Prim.Native.Nat.{◌-◌, ◌≤◌}
 use native.Mathlib.Omega.{arith}
 use borrow.Author.Count.{falls}
-use lib.ListN.{length}
-use Rattle.rows.specs.Rows.{On, Room, Made}
 use Rattle.rows.proofs.Sets.{is_iff}
 use Rattle.rows.proofs.Rows.{room_row, made_none, made_more, made_row_is, made_row_iff, made_room}
-use Rattle.combined.specs.Sequential.{Among, AmongRoom}
 use Rattle.combined.proofs.sequential.among_by.Goals as goal
+use Rattle.combined.proofs.sequential.among_by.Goals.{then-order-b-eq4, else-order-b-eq4}
 
 pub bounds-order-b : goal.bounds-order-b
 bounds-order-b c = omega (arith, c.loop-b-test.true, c.loop-b.invariant.1.0)
@@ -26,22 +22,22 @@ loop-b-smaller c = falls _ _ c.loop-b-test.true
 pub loop-b-preserved : goal.loop-b-preserved
 loop-b-preserved c = let inv = c.loop-b.invariant in
     let low = c.loop-b-test.true in
-    ⊎_elim
-    (λ y.
-    rw y.5 (
-      omega (arith, low),
-      inv.1,
-      made_more inv.2
-          (made_row_iff (λ a z. record { sc_a = z.0; sc_b = y.0.taken; by = z.1 }) (λ a s. (s.sc_a, s.by)) y.2.ensures),
-    ))
-    (λ y.
-    rw y.6 (
-      omega (arith, low),
-      inv.1,
-      made_more inv.2
-          (made_row_is (is_iff (λ a z. absurd z) (λ a s. y.0.left s.sc_b) y.2.ensures) (λ a s. s.sc_a.col) y.3.ensures),
-    ))
-    c.if-order-b-eq4.branch
+    elim c.if-order-b-eq4.branch [
+      | then-order-b-eq4 y ↦
+          rw y.out-is (
+            omega (arith, low),
+            inv.1,
+            made_more inv.2
+                (made_row_iff (λ a z. record { sc_a = z.0; sc_b = y.if-order-b-eq4.true; by = z.1 }) (λ a s. (s.sc_a, s.by)) y.steps_to.ensures),
+          )
+      | else-order-b-eq4 y ↦
+          rw y.out-is (
+            omega (arith, low),
+            inv.1,
+            made_more inv.2
+                (made_row_is (is_iff (λ a z. absurd z) (λ a s. y.if-order-b-eq4.false s.sc_b) y.nothing.ensures) (λ a s. s.sc_a.col) y.put.ensures),
+          )
+    ]
 
 pub shape_of-out : goal.shape_of-out
 shape_of-out c = c.loop-b.invariant.2.rest.size

@@ -1,13 +1,7 @@
 -- `sequential::among_by` meets its contract: the first b rows have the steps among SC records.
-use mathlib.Core.Path.{◌≡◌}
-use mathlib.Core.Logic.{⊎_elim}
 use Prim.Native.Nat.{◌-◌, ◌≤◌}
-use native.Mathlib.Omega.{arith}
-use borrow.Author.Count.{falls}
 use lib.ListN.{length}
 use Rattle.rows.specs.Rows.{On, Room, Made}
-use Rattle.rows.proofs.Sets.{is_iff}
-use Rattle.rows.proofs.Rows.{room_row, made_none, made_more, made_row_is, made_row_iff, made_room}
 use Rattle.combined.specs.Sequential.{Among, AmongRoom}
 use Rattle.combined.proofs.sequential.among_by.Given as goal
 

@@ -1,11 +1,8 @@
 -- `sequential::detours_by` meets its contract: the first b rows are turned.
 use mathlib.Core.Path.{◌≡◌}
-use Prim.Native.Nat.{◌-◌, ◌≤◌}
 use native.Mathlib.Omega.{arith}
 use borrow.Author.Count.{falls}
-use Rattle.rows.specs.Rows.{On, Made}
 use Rattle.rows.proofs.Rows.{room_row, made_none, made_more, made_row_is, made_room}
-use Rattle.combined.specs.Sequential.{Turned, TurningRoom}
 use Rattle.combined.proofs.Turns.{turned_low}
 use Rattle.combined.proofs.sequential.detours_by.Goals as goal
 

@@ -1,10 +1,6 @@
 -- `sequential::elsewhere_by` meets its contract: the first b rows are what is elsewhere.
-use mathlib.Core.Path.{◌≡◌}
 use Prim.Native.Nat.{◌-◌, ◌≤◌}
-use native.Mathlib.Omega.{arith}
 use Rattle.rows.specs.Rows.{On, Made}
-use Rattle.rows.proofs.Sets.{is_iff, without_of}
-use Rattle.rows.proofs.Rows.{room_row, made_none, made_more, made_row_is, made_room}
 use Rattle.combined.specs.Sequential.{Elsewhere, ElsewhereRoom}
 use Rattle.combined.proofs.sequential.elsewhere_by.Given as goal
 

@@ -2,7 +2,6 @@
 use native.Mathlib.Omega.{arith}
 use Rattle.rows.proofs.Sets.{either_of, both_of}
 use Rattle.rows.proofs.Rows.{room_row}
-use Rattle.combined.specs.Sequential.{AmongRoom}
 use Rattle.combined.proofs.sequential.steps_from.Goals as goal
 
 pub row-requires : goal.row-requires

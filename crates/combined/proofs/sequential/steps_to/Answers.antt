@@ -1,10 +1,7 @@
 -- `sequential::steps_to` meets its contract: the row is put twice, at first with what is over b alone.
-use mathlib.Core.Path.{◌≡◌}
 use native.Mathlib.Omega.{arith}
-use Rattle.rows.specs.Rows.{On, Room, HasRow, MadeRow}
 use Rattle.rows.proofs.Sets.{is_iff}
 use Rattle.rows.proofs.Rows.{room_row, made_row_is, made_row_trans, made_row_room}
-use Rattle.combined.specs.Sequential.{AmongRoom}
 use Rattle.combined.proofs.Ways.{stepping, stepped, known_others}
 use Rattle.combined.proofs.sequential.steps_to.Goals as goal
 

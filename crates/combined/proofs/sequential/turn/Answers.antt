@@ -1,14 +1,11 @@
 -- `sequential::turn` meets its contract: as the parent's row, or made of two rows, or there is no parent.
-use mathlib.Core.Path.{◌≡◌, refl}
-use Prim.Native.Nat.{◌<◌}
+use mathlib.Core.Path.{refl}
 use native.Mathlib.Omega.{arith}
-use borrow.Author.Rules.{rules}
-use Rattle.laws.specs.Says.{Says}
 use Rattle.laws.proofs.Says.{says_and, says_eq, says_lt, said, denied}
 use Rattle.rows.specs.Steps.{Leads}
 use Rattle.rows.proofs.Sets.{is_iff, either_of}
 use Rattle.rows.proofs.Rows.{room_row}
-use Rattle.combined.specs.Sequential.{SamePlace, Turned, Turned.above, TurningRoom}
+use Rattle.combined.specs.Sequential.{SamePlace, Turned.above}
 use Rattle.combined.proofs.Turns.{turned_above, turned_apart, apart_turned, turned_parent}
 use Rattle.combined.proofs.sequential.turn.Goals as goal
 

@@ -1,11 +1,11 @@
 -- `asked::meet` meets its contract: the first i words are those of both.
 use mathlib.Core.Path.{refl}
-use Prim.Native.Nat.{ℕ, ◌*◌, ◌-◌, ◌%◌, ◌≤◌}
+use Prim.Native.Nat.{◌%◌}
 use native.Mathlib.Omega.{arith}
 use lib.Bits.{bit_and}
-use lib.ListN.{length, get_or}
+use lib.ListN.{get_or}
 use Rattle.rows.proofs.Digits.{digit_and}
-use Rattle.rows.proofs.Parts.{Filled, filled_none, filled_more, filled_whole}
+use Rattle.rows.proofs.Parts.{filled_none, filled_more, filled_whole}
 use Rattle.rows.proofs.Rows.{row_bit}
 use Rattle.rows.proofs.Words.{made_words}
 use Rattle.pairs.proofs.asked.meet.Goals as goal

@@ -1,9 +1,5 @@
 -- `asked::meet_led_by` meets its contract: the first q rows are what x relates, and y to where the column leads from.
-use Prim.Native.Nat.{◌-◌, ◌≤◌}
 use native.Mathlib.Omega.{arith}
-use lib.ListN.{length}
-use Rattle.rows.specs.Rows.{On, Room, Made}
-use Rattle.rows.specs.Steps.{Leads, Then}
 use Rattle.rows.proofs.Sets.{both_of}
 use Rattle.rows.proofs.Rows.{room_row, made_none, made_more, made_whole, made_row_is, made_room}
 use Rattle.pairs.proofs.asked.meet_led_by.Goals as goal

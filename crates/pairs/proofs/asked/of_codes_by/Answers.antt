@@ -1,8 +1,5 @@
 -- `asked::of_codes_by` meets its contract: of the first q rows those with the code are copied.
-use Prim.Native.Nat.{◌-◌, ◌≤◌}
 use native.Mathlib.Omega.{arith}
-use lib.ListN.{length, get_or}
-use Rattle.rows.specs.Rows.{On, Room, Made}
 use Rattle.rows.proofs.Rows.{room_row, made_none, made_more, made_whole, made_row_is, made_room}
 use Rattle.pairs.proofs.asked.of_codes_by.Goals as goal
 

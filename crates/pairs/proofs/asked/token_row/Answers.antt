@@ -1,5 +1,4 @@
 -- `asked::token_row` meets its contract: q is of the kind 3, or it is not.
-use borrow.Author.Rules.{rules}
 use Rattle.rows.proofs.Sets.{is_iff, without_of}
 use Rattle.rows.proofs.Rows.{room_row}
 use Rattle.pairs.proofs.asked.token_row.Goals as goal

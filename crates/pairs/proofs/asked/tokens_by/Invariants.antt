@@ -1,13 +1,7 @@
 -- `asked::tokens_by` meets its contract: the first q rows have the pairs, and those below q that took from each source are noted.
-use mathlib.Core.Path.{◌≡◌}
 use Prim.Native.Nat.{◌-◌, ◌≤◌}
-use native.Mathlib.Omega.{arith}
-use borrow.Author.Count.{falls}
 use Rattle.rows.specs.Rows.{On, Room, Made}
-use Rattle.rows.proofs.Sets.{is_iff}
-use Rattle.rows.proofs.Rows.{room_row, made_none, made_more, made_row_is, made_room, made_trans, made_never}
 use Rattle.pairs.specs.Tokens.{Taken, TwoTaken, TakerRoom}
-use Rattle.pairs.proofs.Taking.{taker_room, two_taken, taken_two}
 use Rattle.pairs.proofs.asked.tokens_by.Given as goal
 
 abbrev pub invariant-loop-q : goal.invariant-loop-q

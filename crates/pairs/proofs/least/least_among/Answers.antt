@@ -1,18 +1,16 @@
 -- `least::least_among` meets its contract: the pairs before p, q are passed, and nothing is found until the search is left.
-use mathlib.Core.Path.{◌≡◌, refl, ◌∙◌}
+use mathlib.Core.Path.{refl, ◌∙◌}
 use mathlib.Core.List.{List}
-use mathlib.Core.Logic.{⊎_elim}
-use Prim.Native.Nat.{ℕ, ◌-◌, ◌<◌, ◌≤◌}
+use Prim.Native.Nat.{ℕ}
 use native.Mathlib.Omega.{arith}
 use Rattle.laws.proofs.Says.{said, denied}
 use Rattle.laws.proofs.Steps.{Within}
-use Rattle.laws.proofs.Passed.{Passed, passed_none, passed_more, passed_over, passed_row, passed_all, passed_found}
-use Rattle.findings.specs.declared.Found.TheVariants.{Nothing}
+use Rattle.laws.proofs.Passed.{passed_none, passed_more, passed_over, passed_row, passed_all, passed_found}
 use Rattle.findings.proofs.Meant.{found_pair, found_no_pair}
-use Rattle.rows.specs.Rows.{Cell}
 use Rattle.rows.proofs.Rows.{room_place}
 use Rattle.pairs.proofs.least.least_among.Invariants.{Pair}
 use Rattle.pairs.proofs.least.least_among.Goals as goal
+use Rattle.pairs.proofs.least.least_among.Goals.{then-has+else-loop-q-test, else-has}
 
 pairs_within : (w n : ℕ) (m : List ℕ) → Within n (Pair w n m)
 pairs_within w n m = record { left = λ z. z.0; right = λ z. z.1.row }
@@ -33,11 +31,12 @@ loop-q-preserved c = let i = c.loop-q.invariant in
 pub search-preserved : goal.search-preserved
 search-preserved c = let i = c.search.invariant in
     let low = c.search-test.true in
-    ⊎_elim (λ way. (omega (arith, low), way.3 ∙ way.1.inv.1, passed_row (pairs_within _ _ _) way.2.left way.1.inv.2))
-    (λ way.
-    let absent = denied c.has.ensures way.0.left in
-    (omega (arith, low), way.1 ∙ i.1, passed_over (λ q z. absent (c.requires.2.all _ 0 (omega arith) (q, z.1))) i.2))
-    c.if-has.branch
+    elim c.if-has.branch [
+      | then-has+else-loop-q-test w ↦ (omega (arith, low), w.found-is ∙ w.loop-q.invariant.1, passed_row (pairs_within _ _ _) w.loop-q-test.false w.loop-q.invariant.2)
+      | else-has w ↦
+          let absent = denied c.has.ensures w.if-has.false in
+          (omega (arith, low), w.found-is ∙ i.1, passed_over (λ q z. absent (c.requires.2.all _ 0 (omega arith) (q, z.1))) i.2)
+    ]
 
 pub returns-after-search : goal.returns-after-search
 returns-after-search c = let i = c.search.invariant in rw i.1 (found_no_pair (passed_all (pairs_within _ _ _) c.search-test.false i.2))

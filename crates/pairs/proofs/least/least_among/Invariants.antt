@@ -1,16 +1,10 @@
 -- `least::least_among` meets its contract: the pairs before p, q are passed, and nothing is found until the search is left.
-use mathlib.Core.Path.{◌≡◌, refl, ◌∙◌}
+use mathlib.Core.Path.{◌≡◌}
 use mathlib.Core.List.{List}
-use mathlib.Core.Logic.{⊎_elim}
 use Prim.Native.Nat.{ℕ, ◌-◌, ◌<◌, ◌≤◌}
-use native.Mathlib.Omega.{arith}
-use Rattle.laws.proofs.Says.{said, denied}
-use Rattle.laws.proofs.Steps.{Within}
-use Rattle.laws.proofs.Passed.{Passed, passed_none, passed_more, passed_over, passed_row, passed_all, passed_found}
+use Rattle.laws.proofs.Passed.{Passed}
 use Rattle.findings.specs.declared.Found.TheVariants.{Nothing}
-use Rattle.findings.proofs.Meant.{found_pair, found_no_pair}
 use Rattle.rows.specs.Rows.{Cell}
-use Rattle.rows.proofs.Rows.{room_place}
 use Rattle.pairs.proofs.least.least_among.Given as goal
 
 abbrev pub Pair : ℕ → ℕ → List ℕ → ℕ → ℕ → Type 0

@@ -1,6 +1,5 @@
 -- `least::least_pair` meets its contract: the rows joined have the first numbers of the pairs, and where they have none there is no pair.
 use native.Mathlib.Omega.{arith}
-use borrow.Author.Rules.{rules}
 use Rattle.laws.specs.Least.{Least}
 use Rattle.laws.proofs.Says.{said}
 use Rattle.findings.proofs.Meant.{found_no_pair}

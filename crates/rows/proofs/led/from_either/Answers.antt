@@ -1,7 +1,4 @@
 -- `led::from_either` meets its contract: by the one column or by the other.
-use mathlib.Core.Logic.{◌⊎◌, inl, inr, ⊎_elim}
-use borrow.Author.Rules.{rules}
-use Rattle.rows.specs.Steps.{ByEither, ByEither.by_first, ByEither.by_second, Then}
 use Rattle.rows.proofs.Sets.{is_iff, either_of}
 use Rattle.rows.proofs.Steps.{then_either, either_then}
 use Rattle.rows.proofs.led.from_either.Goals as goal

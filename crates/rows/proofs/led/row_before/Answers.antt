@@ -1,8 +1,7 @@
 -- `led::row_before` meets its contract: the column's number is lower, or it leads nowhere.
-use mathlib.Core.Path.{◌≡◌, refl, sym, subst}
+use mathlib.Core.Path.{refl, sym, subst}
 use Prim.Native.Nat.{ℕ}
 use native.Mathlib.Omega.{arith}
-use borrow.Author.Rules.{rules}
 use Rattle.rows.specs.Rows.{On}
 use Rattle.rows.proofs.Rows.{room_row}
 use Rattle.rows.proofs.Sets.{is_iff}

@@ -1,5 +1,4 @@
 -- `row::add` meets its contract: one bit of one word.
-use borrow.Author.Rules.{rules}
 use Rattle.rows.proofs.Rows.{row_add}
 use Rattle.rows.proofs.row.add.Goals as goal
 

@@ -1,5 +1,4 @@
 -- `row::drop` meets its contract: one bit of one word.
-use borrow.Author.Rules.{rules}
 use Rattle.rows.proofs.Rows.{row_drop}
 use Rattle.rows.proofs.row.drop.Goals as goal
 

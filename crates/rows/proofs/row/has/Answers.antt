@@ -1,5 +1,4 @@
 -- `row::has` meets its contract: the bit is read at its place.
-use borrow.Author.Rules.{rules}
 use Rattle.laws.proofs.Says.{says_iff, says_eq}
 use Rattle.rows.proofs.row.has.Goals as goal
 

@@ -2,7 +2,6 @@
 use mathlib.Core.Path.{◌≡◌}
 use Prim.Native.Nat.{◌*◌}
 use native.Mathlib.Omega.{arith}
-use borrow.Author.Rules.{rules}
 use Rattle.rows.proofs.Rows.{row_words, word_1, past_1, word_2, past_2, word_4, past_4}
 use Rattle.rows.proofs.row.row.Goals as goal
 

@@ -1,9 +1,9 @@
 -- `search::last` meets its contract: the row has no number from word k on.
 use mathlib.Core.Path.{◌≡◌, sym, subst}
-use Prim.Native.Nat.{ℕ, ◌+◌, ◌-◌, ◌*◌, ◌^◌, ◌≤◌, ◌<◌}
+use Prim.Native.Nat.{ℕ, ◌+◌, ◌-◌, ◌*◌, ◌^◌, ◌<◌}
 use native.Mathlib.Nat.{pos_of_ne-zero}
 use native.Mathlib.Omega.{arith}
-use lib.ListN.{length, get_or}
+use lib.ListN.{get_or}
 use lib.Count.{leading_le}
 use Rattle.rows.proofs.Leading.{leading_low}
 use Rattle.rows.proofs.Along.{Clear, clear_all, clear_more, clear_none, last_found}

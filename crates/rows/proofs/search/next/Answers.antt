@@ -1,10 +1,10 @@
 -- `search::next` meets its contract: the row has no number from lo on that is below at.
-use Prim.Native.Nat.{◌+◌, ◌-◌, ◌*◌, ◌/◌, ◌^◌, ◌≤◌, ◌<◌}
+use Prim.Native.Nat.{◌+◌, ◌*◌, ◌/◌, ◌^◌, ◌<◌}
 use native.Mathlib.Nat.{pos_of_ne-zero}
 use native.Mathlib.Omega.{arith}
-use lib.ListN.{length, get_or}
+use lib.ListN.{get_or}
 use lib.Count.{trailing_le}
-use Rattle.rows.proofs.Along.{rest_at, Gap, word_passed, word_found, word_before, gap_none, gap_more, gap_found, gap_all}
+use Rattle.rows.proofs.Along.{rest_at, word_passed, word_found, word_before, gap_none, gap_more, gap_found, gap_all}
 use Rattle.rows.proofs.search.next.Goals as goal
 
 pub overflow_cast-result : goal.overflow_cast-result

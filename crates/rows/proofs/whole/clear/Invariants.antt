@@ -1,10 +1,7 @@
 -- `whole::clear` meets its contract: the first i words are 0.
-use mathlib.Core.Path.{refl}
 use Prim.Native.Nat.{◌*◌, ◌-◌, ◌≤◌}
-use native.Mathlib.Omega.{arith}
 use lib.ListN.{length}
-use Rattle.rows.proofs.Parts.{Filled, filled_none, filled_more, filled_whole}
-use Rattle.rows.proofs.Words.{made_zeros}
+use Rattle.rows.proofs.Parts.{Filled}
 use Rattle.rows.proofs.whole.clear.Given as goal
 
 abbrev pub invariant-loop-i : goal.invariant-loop-i

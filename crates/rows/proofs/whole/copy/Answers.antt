@@ -1,9 +1,8 @@
 -- `whole::copy` meets its contract: the first i words are copied.
 use mathlib.Core.Path.{refl}
-use Prim.Native.Nat.{ℕ, ◌*◌, ◌-◌, ◌≤◌}
 use native.Mathlib.Omega.{arith}
-use lib.ListN.{length, get_or}
-use Rattle.rows.proofs.Parts.{Filled, filled_none, filled_more, filled_whole}
+use lib.ListN.{get_or}
+use Rattle.rows.proofs.Parts.{filled_none, filled_more, filled_whole}
 use Rattle.rows.proofs.Rows.{row_bit}
 use Rattle.rows.proofs.Words.{made_words}
 use Rattle.rows.proofs.whole.copy.Goals as goal

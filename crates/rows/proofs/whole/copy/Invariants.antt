@@ -1,11 +1,7 @@
 -- `whole::copy` meets its contract: the first i words are copied.
-use mathlib.Core.Path.{refl}
-use Prim.Native.Nat.{ℕ, ◌*◌, ◌-◌, ◌≤◌}
-use native.Mathlib.Omega.{arith}
+use Prim.Native.Nat.{◌*◌, ◌-◌, ◌≤◌}
 use lib.ListN.{length, get_or}
-use Rattle.rows.proofs.Parts.{Filled, filled_none, filled_more, filled_whole}
-use Rattle.rows.proofs.Rows.{row_bit}
-use Rattle.rows.proofs.Words.{made_words}
+use Rattle.rows.proofs.Parts.{Filled}
 use Rattle.rows.proofs.whole.copy.Given as goal
 
 abbrev pub invariant-loop-i : goal.invariant-loop-i

@@ -1,11 +1,9 @@
 -- `whole::each_itself` meets its contract: each of the first b rows has its own number, and the others nothing.
 use mathlib.Core.Path.{◌≡◌, refl, sym}
 use mathlib.Core.Logic.{◌⊎◌, inl, inr}
-use Prim.Native.Nat.{ℕ, ◌+◌, ◌-◌, ◌≤◌, ◌<◌}
+use Prim.Native.Nat.{ℕ, ◌+◌}
 use native.Mathlib.Omega.{arith}
-use borrow.Author.Rules.{rules}
 use borrow.Author.Count.{below_more}
-use Rattle.rows.specs.Rows.{Room, Made}
 use Rattle.rows.proofs.Rows.{room_place, made_held, made_iff, made_trans, made_room}
 use Rattle.rows.proofs.Noted.{noted}
 use Rattle.rows.proofs.whole.each_itself.Invariants.{Own}

@@ -6,7 +6,7 @@ pub joined_by-requires : goal.joined_by-requires
 joined_by-requires c = rw c.if-w-eq1.true at c.requires
 
 pub returns-then-w-eq1 : goal.returns-then-w-eq1
-returns-then-w-eq1 c = rw c.if-w-eq1.true c.Joined-by.ensures
+returns-then-w-eq1 c = rw c.if-w-eq1.true c.joined_by.ensures
 
 pub joined_by-requires-then-w-eq2 : goal.joined_by-requires-then-w-eq2
 joined_by-requires-then-w-eq2 c = rw c.if-w-eq2.true at c.requires

@@ -2,11 +2,10 @@
 use mathlib.Core.Path.{◌≡◌}
 use mathlib.Core.Logic.{◌⊎◌, inl, inr}
 use mathlib.Core.List.{List}
-use Prim.Native.Nat.{ℕ, ◌+◌, ◌-◌, ◌≤◌}
+use Prim.Native.Nat.{ℕ, ◌+◌}
 use native.Mathlib.Omega.{arith}
 use borrow.Author.Count.{below_more}
-use Rattle.rows.specs.Sets.{Is}
-use Rattle.rows.specs.Rows.{On, Room, Cell}
+use Rattle.rows.specs.Rows.{On, Cell}
 use Rattle.rows.proofs.Sets.{is_iff, either_of}
 use Rattle.rows.proofs.Rows.{room_row}
 use Rattle.rows.proofs.whole.joined_by.Goals as goal

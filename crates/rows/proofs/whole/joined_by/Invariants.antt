@@ -1,14 +1,7 @@
 -- `whole::joined_by` meets its contract: the set has what the first b rows have.
-use mathlib.Core.Path.{◌≡◌}
-use mathlib.Core.Logic.{◌⊎◌, inl, inr}
-use mathlib.Core.List.{List}
-use Prim.Native.Nat.{ℕ, ◌+◌, ◌-◌, ◌≤◌}
-use native.Mathlib.Omega.{arith}
-use borrow.Author.Count.{below_more}
+use Prim.Native.Nat.{ℕ, ◌-◌, ◌≤◌}
 use Rattle.rows.specs.Sets.{Is}
-use Rattle.rows.specs.Rows.{On, Room, Cell}
-use Rattle.rows.proofs.Sets.{is_iff, either_of}
-use Rattle.rows.proofs.Rows.{room_row}
+use Rattle.rows.specs.Rows.{Room, Cell}
 use Rattle.rows.proofs.whole.joined_by.Given as goal
 
 abbrev pub invariant-loop-b : goal.invariant-loop-b

@@ -1,10 +1,9 @@
 -- `whole::relates_any` meets its contract: the first i words are joined.
-use Prim.Native.Nat.{◌*◌, ◌-◌, ◌^◌, ◌≤◌, ◌<◌}
+use Prim.Native.Nat.{◌^◌, ◌<◌}
 use native.Mathlib.Omega.{arith}
 use lib.Bits.{or_lt}
-use lib.ListN.{length, get_or}
-use Rattle.rows.specs.Rows.{Width}
-use Rattle.rows.proofs.Words.{Joined, joined_none, joined_more, joined_whole, says_some}
+use lib.ListN.{get_or}
+use Rattle.rows.proofs.Words.{joined_none, joined_more, joined_whole, says_some}
 use Rattle.rows.proofs.whole.relates_any.Goals as goal
 
 pub loop-i-init : goal.loop-i-init

@@ -1,10 +1,8 @@
 -- `whole::relates_any` meets its contract: the first i words are joined.
 use Prim.Native.Nat.{◌*◌, ◌-◌, ◌^◌, ◌≤◌, ◌<◌}
-use native.Mathlib.Omega.{arith}
-use lib.Bits.{or_lt}
-use lib.ListN.{length, get_or}
+use lib.ListN.{length}
 use Rattle.rows.specs.Rows.{Width}
-use Rattle.rows.proofs.Words.{Joined, joined_none, joined_more, joined_whole, says_some}
+use Rattle.rows.proofs.Words.{Joined}
 use Rattle.rows.proofs.whole.relates_any.Given as goal
 
 abbrev pub invariant-loop-i : goal.invariant-loop-i

@@ -1,5 +1,4 @@
 -- `whole::sort_in` meets its contract: as it is for one word, two, and four.
-use borrow.Author.Rules.{rules}
 use Rattle.rows.proofs.Rows.{four_words}
 use Rattle.rows.proofs.whole.sort_in.Goals as goal
 

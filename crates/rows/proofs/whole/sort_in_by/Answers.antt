@@ -2,14 +2,15 @@
 use mathlib.Core.Path.{◌≡◌, refl, sym, ap}
 use mathlib.Core.Logic.{◌⊎◌, inl, inr, ⊎_elim}
 use mathlib.Core.List.{List}
-use Prim.Native.Nat.{ℕ, ◌+◌, ◌-◌, ◌≤◌, ◌<◌}
+use Prim.Native.Nat.{ℕ, ◌+◌, ◌≤◌, ◌<◌}
 use native.Mathlib.Omega.{arith}
 use borrow.Author.Count.{below_more}
 use lib.ListN.{get_or}
-use Rattle.rows.specs.Rows.{On, Room, MadeRow, Made}
+use Rattle.rows.specs.Rows.{On, MadeRow, Made}
 use Rattle.rows.proofs.Rows.{room_row, made_held, made_iff, made_row_iff, made_again}
 use Rattle.rows.proofs.whole.sort_in_by.Invariants.{Sorted}
 use Rattle.rows.proofs.whole.sort_in_by.Goals as goal
+use Rattle.rows.proofs.whole.sort_in_by.Goals.{then-l-h, else-l-h}
 
 module _ (column : List ℕ) (a : ℕ) where
   wider : (x l : ℕ) → Sorted column a x l → Sorted column (a + 1) x l
@@ -45,8 +46,10 @@ add-requires c = let turn = c.loop-a in
 pub loop-a-preserved : goal.loop-a-preserved
 loop-a-preserved c = let turn = c.loop-a in
     let column = c.args.column.now in
-    ⊎_elim (λ w. (omega arith, turn.invariant.1, rw w.5 (sorted_more column turn.a turn.invariant.2 w.0.taken w.2.ensures)))
-    (λ w. (omega arith, turn.invariant.1, rw w.1 (sorted_same column turn.a turn.invariant.2 w.0.left))) c.if-l-h.branch
+    elim c.if-l-h.branch [
+      | then-l-h w ↦ (omega arith, turn.invariant.1, rw w.out-is (sorted_more column turn.a turn.invariant.2 w.if-l-h.true w.add.ensures))
+      | else-l-h w ↦ (omega arith, turn.invariant.1, rw w.out-is (sorted_same column turn.a turn.invariant.2 w.if-l-h.false))
+    ]
 
 pub shape_of-out : goal.shape_of-out
 shape_of-out c = c.loop-a.invariant.2.rest.size

@@ -1,6 +1,5 @@
 -- `whole::sorted` meets its contract: emptied, then sorted in.
 use native.Mathlib.Omega.{arith}
-use borrow.Author.Rules.{rules}
 use Rattle.rows.proofs.Rows.{made_room, made_trans}
 use Rattle.rows.proofs.whole.sorted.Goals as goal
 

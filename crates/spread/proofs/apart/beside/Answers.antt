@@ -1,6 +1,5 @@
 -- `apart::beside` meets its contract: what stands under the arms of the branch, without what stands under b.
 use native.Mathlib.Omega.{arith}
-use borrow.Author.Rules.{rules}
 use Rattle.rows.proofs.Sets.{is_iff, without_of}
 use Rattle.rows.proofs.Parts.{row_before}
 use Rattle.spread.proofs.apart.beside.Goals as goal

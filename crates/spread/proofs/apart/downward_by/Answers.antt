@@ -2,9 +2,7 @@
 use mathlib.Core.Path.{◌≡◌}
 use Prim.Native.Nat.{ℕ, ◌+◌, ◌-◌, ◌≤◌, ◌<◌}
 use native.Mathlib.Omega.{arith}
-use Rattle.rows.specs.Rows.{On, Room, Made}
 use Rattle.rows.proofs.Rows.{made_held, made_iff, made_trans, made_room}
-use Rattle.spread.specs.Handed.{UnderFrom, ArmsFrom}
 use Rattle.spread.proofs.Arms.{under_none, all_under, under_all, arms_none, arms_all}
 use Rattle.spread.proofs.apart.downward_by.Goals as goal
 

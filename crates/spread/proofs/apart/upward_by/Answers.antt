@@ -1,12 +1,8 @@
 -- `apart::upward_by` meets its contract: the first b rows hold what stands beside a number or one above it.
-use Prim.Native.Nat.{◌-◌, ◌≤◌}
 use native.Mathlib.Omega.{arith}
-use Rattle.rows.specs.Rows.{On, Room, Made}
-use Rattle.rows.specs.Steps.{Leads, Star, Then}
 use Rattle.rows.proofs.Sets.{is_iff, either_of}
 use Rattle.rows.proofs.Rows.{room_row, made_none, made_more, made_whole, made_row_is, made_room}
 use Rattle.rows.proofs.Steps.{then_held, then_star, star_then}
-use Rattle.spread.specs.Apart.{BesideBy}
 use Rattle.spread.proofs.apart.upward_by.Goals as goal
 
 pub row_before-above-requires : goal.row_before-above-requires

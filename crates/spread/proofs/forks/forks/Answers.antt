@@ -1,11 +1,10 @@
 -- `forks::forks` meets its contract: the column leads to no two of the numbers below b from one.
-use mathlib.Core.Path.{◌≡◌, sym}
-use mathlib.Core.Logic.{⊎_elim}
-use Prim.Native.Nat.{◌-◌, ◌≤◌}
+use mathlib.Core.Path.{sym}
 use native.Mathlib.Omega.{arith}
 use Rattle.laws.proofs.Says.{says_yes, says_no, said, denied}
-use Rattle.spread.proofs.Forking.{SeenBelow, seen_none, seen_more, seen_same, seen_forks, seen_all}
+use Rattle.spread.proofs.Forking.{seen_none, seen_more, seen_same, seen_forks, seen_all}
 use Rattle.spread.proofs.forks.forks.Goals as goal
+use Rattle.spread.proofs.forks.forks.Goals.{then-v-b+else-has, else-v-b}
 
 pub overflow_cast-v : goal.overflow_cast-v
 overflow_cast-v c = omega (arith, c.shared_slice_known-in-loop-b-1.given c.loop-b.b)
@@ -30,8 +29,10 @@ add-requires c = let turn = c.loop-b in
 pub loop-b-preserved : goal.loop-b-preserved
 loop-b-preserved c = let turn = c.loop-b in (
   omega arith,
-  ⊎_elim (λ z. rw z.7 (seen_more turn.invariant.1 z.0.taken (denied z.2.ensures z.3.left) z.5.ensures))
-      (λ z. rw z.1 (seen_same turn.invariant.1 z.0.left)) c.if-v-b.branch,
+  elim c.if-v-b.branch [
+    | then-v-b+else-has w ↦ rw w.seen-is (seen_more turn.invariant.1 w.if-v-b.true (denied w.has.ensures w.if-has.false) w.add.ensures)
+    | else-v-b w ↦ rw w.seen-is (seen_same turn.invariant.1 w.if-v-b.false)
+  ],
 )
 
 pub returns : goal.returns

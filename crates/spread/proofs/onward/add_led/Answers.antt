@@ -1,8 +1,7 @@
 -- `onward::add_led` meets its contract: the column's number is lower and the row takes it in, or it leads nowhere.
-use mathlib.Core.Path.{◌≡◌, refl, sym}
-use mathlib.Core.Logic.{◌⊎◌, inl, ⊎_map, ⊎_elim}
+use mathlib.Core.Path.{sym}
+use mathlib.Core.Logic.{inl, ⊎_map, ⊎_elim}
 use native.Mathlib.Omega.{arith}
-use borrow.Author.Rules.{rules}
 use Rattle.rows.proofs.Parts.{outside_none}
 use Rattle.rows.proofs.Rows.{room_place, made_row_iff}
 use Rattle.spread.proofs.onward.add_led.Goals as goal

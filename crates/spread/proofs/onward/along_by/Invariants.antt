@@ -1,11 +1,8 @@
 -- `onward::along_by` meets its contract: the first b rows hold one or more steps.
 use Prim.Native.Nat.{◌-◌, ◌≤◌}
-use native.Mathlib.Omega.{arith}
 use Rattle.laws.specs.Steps.{Plus}
 use Rattle.rows.specs.Rows.{Room, Made}
 use Rattle.rows.specs.Steps.{Leads}
-use Rattle.rows.proofs.Rows.{room_row, made_none, made_more, made_whole, made_room, made_row_room}
-use Rattle.spread.proofs.Stepping.{steps_row}
 use Rattle.spread.proofs.onward.along_by.Given as goal
 
 abbrev pub invariant-loop-b : goal.invariant-loop-b

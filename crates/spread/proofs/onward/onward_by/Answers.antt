@@ -1,9 +1,5 @@
 -- `onward::onward_by` meets its contract: the first b rows hold what x relates and then steps lead on.
-use Prim.Native.Nat.{◌-◌, ◌≤◌}
 use native.Mathlib.Omega.{arith}
-use Rattle.laws.specs.Steps.{Plus}
-use Rattle.rows.specs.Rows.{On, Room, Made}
-use Rattle.rows.specs.Steps.{ByEither, Then}
 use Rattle.rows.proofs.Sets.{is_iff, either_of}
 use Rattle.rows.proofs.Rows.{room_row, made_none, made_more, made_whole, made_row_is, made_room}
 use Rattle.rows.proofs.Steps.{either_rises, then_held, then_plus, plus_then}
