@@ -1,22 +1,20 @@
 -- Conflict by columns of parents and of arms: what stands under another arm of a branch.
 use mathlib.Core.Path.{◌≡◌, refl, sym, subst, ◌∙◌}
 use mathlib.Core.List.{List}
-use mathlib.Core.Logic.{◌⊎◌, inl, inr, ⊎_elim, ◌↔◌}
+use mathlib.Core.Logic.{◌⊎◌, inl, inr, ⊎_elim}
 use Prim.Native.Nat.{ℕ, zero, suc, ◌+◌, ◌<◌}
 use native.Mathlib.Omega.{arith}
 use native.Mathlib.Nat.{not-suc-le-zero}
-use Rattle.laws.specs.Steps.{Rel, Plus, one, more}
-use Rattle.rows.specs.Steps.{Leads, Star, Then}
-use Rattle.spread.specs.Apart.{Under, UnderArms, Beside, Apart}
-use Rattle.model.specs.Table.{Table, Inside, thread, Parent, IsInit}
+use Rattle.laws.specs.Steps.{Rel, one, more}
+use Rattle.spread.specs.Apart.{Under, Apart}
+use Rattle.model.specs.Table.{Table, Inside, Parent, IsInit}
 use Rattle.model.specs.Relations.{Po, AtOrAbove, equal, above, Conflict}
 use Rattle.model.specs.WellFormed.{WellFormed}
-use Rattle.model.proofs.Facts.{one_parent, parent_earlier, thread_of_parent}
+use Rattle.model.proofs.Facts.{parent_earlier, thread_of_parent}
 use Rattle.model.proofs.Laws.{conflict_below, po_iff_parent}
-use Rattle.model.proofs.Within.{po_rises, po_within, above_within}
+use Rattle.model.proofs.Within.{po_within, above_within}
 use Rattle.links.specs.Arms.{Arms}
-use Rattle.links.specs.Links.{Linked}
-use Rattle.links.proofs.Branches.{not_between, arms_apart, not_init, parent_within, apart_conflict, ByBranch, conflict_iff_branch}
+use Rattle.links.proofs.Branches.{arms_apart, not_init, parent_within, apart_conflict, ByBranch, conflict_iff_branch}
 use Rattle.columns.specs.Columns.{parent_number, arm_number, Column, Known}
 use Rattle.columns.proofs.Facts.{inside, below, led_by_arm, arm_leads}
 use Rattle.columns.proofs.Before.{star_told, told_star}

@@ -1,20 +1,17 @@
 -- po and hb by columns of parents and of sw.
-use mathlib.Core.Path.{◌≡◌, refl, sym, subst}
 use mathlib.Core.List.{List}
-use mathlib.Core.Logic.{◌⊎◌, inl, inr, ◌↔◌}
 use Prim.Native.Nat.{ℕ, ◌<◌}
 use native.Mathlib.Omega.{arith}
-use lib.ListN.{get_or}
 use Rattle.laws.specs.Steps.{Rel, Plus, one, more}
 use Rattle.laws.proofs.Steps.{plus_trans}
 use Rattle.rows.proofs.Steps.{either_rises}
-use Rattle.rows.specs.Steps.{Leads, ByEither, ByEither.by_first, ByEither.by_second, Star, Star.here, Star.on, Then}
-use Rattle.model.specs.Table.{Table, Inside, Parent}
-use Rattle.model.specs.Relations.{Po, AtOrAbove, equal, above, Sw, PoOrSw, by_po, by_sw, Hb}
+use Rattle.rows.specs.Steps.{Leads, ByEither, ByEither.by_first, ByEither.by_second, Star, Star.here, Star.on}
+use Rattle.model.specs.Table.{Table}
+use Rattle.model.specs.Relations.{Po, AtOrAbove, equal, above, PoOrSw, by_po, by_sw, Hb}
 use Rattle.model.proofs.Facts.{parent_earlier, source_is_earlier_write}
-use Rattle.model.proofs.Within.{po_rises, po_within}
+use Rattle.model.proofs.Within.{po_rises}
 use Rattle.columns.specs.Columns.{parent_number, sync_number, Column, Known}
-use Rattle.columns.proofs.Facts.{inside, below, led_by_parent, parent_leads, led_by_sync, sync_leads}
+use Rattle.columns.proofs.Facts.{inside, led_by_parent, parent_leads, led_by_sync, sync_leads}
 
 -- steps that rise, each told of numbers below n by others
 pub plus_below :

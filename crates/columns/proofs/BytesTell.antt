@@ -1,10 +1,10 @@
 -- The bytes of a record tell what the columns say of it.
 use mathlib.Core.Path.{◌≡◌, refl, sym, ap, ap₂, subst, ◌∙◌}
-use mathlib.Core.Bool.{Bool, true, false, ◌&&◌, ◌||◌}
+use mathlib.Core.Bool.{Bool, true, false, ◌&&◌}
 use mathlib.Core.List.{List}
 use Prim.Native.Nat.{ℕ, ◌<◌, ◌≤◌}
 use native.Mathlib.Omega.{arith}
-use borrow.Author.Tests.{lt-ltb, le-ltb, le-leb, lt-leb, ne_eqb, eqb-true}
+use borrow.Author.Tests.{lt-ltb, le-ltb, eqb-true}
 use lib.Dec.{eqb, ltb, leb}
 use Rattle.events.specs.declared.Order.{Order}
 use Rattle.events.specs.declared.Order.TheVariants.{Na, Acq, Rel, Ar, Sc}
@@ -22,7 +22,6 @@ use Rattle.table.specs.Events.{events_of}
 use Rattle.facts.specs.Sound.{One, Counted}
 use Rattle.facts.proofs.Bytes.{read_of, field_told, kind_told, order_by}
 use Rattle.facts.proofs.Records.{formed, one_of, few}
-use Rattle.model.specs.Table.{Table}
 use Rattle.model.proofs.Facts.{has_source, source_is_earlier_write}
 use Rattle.columns.specs.Columns.{no_number, link_number, no_place, place_of, kind_of, unless_init, parent_number, arm_number, source_number, sync_by, sync_number, place_number, kind_number, order_number, number_if, Known}
 use Rattle.columns.specs.Codes.{place_from, arm_from, acquires_code, sync_from}

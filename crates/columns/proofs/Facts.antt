@@ -2,7 +2,6 @@
 use mathlib.Core.Path.{◌≡◌, refl, sym, ap, subst, ◌∙◌}
 use mathlib.Core.Bool.{Bool, true, false, ◌&&◌}
 use mathlib.Core.List.{List}
-use mathlib.Core.Logic.{◌⊎◌, inl, inr, ◌↔◌}
 use Prim.Native.Nat.{ℕ, ◌<◌, ◌≤◌}
 use native.Mathlib.Omega.{arith}
 use lib.Dec.{T, eqb, eqb→eq, eqb_refl}
@@ -13,11 +12,10 @@ use Rattle.events.specs.declared.Link.{Link}
 use Rattle.events.specs.declared.Link.TheVariants.{Absent, To}
 use Rattle.events.specs.declared.Event.{Event}
 use Rattle.events.specs.declared.Event.TheVariants.{Init, Load, Store, Update}
-use Rattle.events.specs.Words.{is_init, is_read, is_write, is_update, is_na, is_sc, order_of, code_of, at_one_location, acquires, releases}
+use Rattle.events.specs.Words.{is_init, is_write, is_update, is_na, is_sc, order_of, code_of, at_one_location, acquires, releases}
 use Rattle.rows.specs.Steps.{Leads}
-use Rattle.model.specs.Table.{Table, Inside, Parent, Source, IsInit, IsUpdate, Read, Write, NA, SC, Acquiring, Releasing, OneLocation}
+use Rattle.model.specs.Table.{Table, Inside, Parent, Source, IsInit, IsUpdate, Write, NA, SC, Releasing, OneLocation}
 use Rattle.model.specs.Relations.{Sw}
-use Rattle.model.specs.WellFormed.{WellFormed}
 use Rattle.model.proofs.Facts.{parent_earlier, has_source, source_is_earlier_write}
 use Rattle.columns.specs.Columns.{no_number, number_if, link_number, no_place, place_of, kind_of, unless_init, parent_number, arm_number, source_number, sync_by, sync_number, place_number, kind_number, order_number, Column, Known}
 

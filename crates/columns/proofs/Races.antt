@@ -1,15 +1,12 @@
 -- Races with earlier writes by columns of codes, and by hb and conflict.
-use mathlib.Core.Path.{◌≡◌}
 use mathlib.Core.List.{List}
-use mathlib.Core.Logic.{◌⊎◌, inl, inr, ⊎_map, ⊎_elim}
+use mathlib.Core.Logic.{inl, ⊎_map}
 use Prim.Native.Nat.{ℕ, ◌<◌}
 use native.Mathlib.Omega.{arith}
 use Rattle.laws.specs.Steps.{Rel}
 use Rattle.combined.specs.Races.{RacesBefore}
-use Rattle.events.specs.declared.Event.TheVariants.{Init}
-use Rattle.events.specs.Words.{is_write}
-use Rattle.model.specs.Table.{Table, Write}
-use Rattle.model.specs.Relations.{Hb, Conflict, Race, EarlierRace}
+use Rattle.model.specs.Table.{Table}
+use Rattle.model.specs.Relations.{Hb, Conflict, EarlierRace}
 use Rattle.model.proofs.Within.{hb_rises}
 use Rattle.columns.specs.Columns.{place_number, kind_number, order_number, Column, Known}
 use Rattle.columns.proofs.Facts.{write_located, kind_writes, writes_kind_lem, order_na, na_order, one_place, one_location}

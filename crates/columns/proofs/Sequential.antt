@@ -1,25 +1,23 @@
 -- The steps among SC records by columns: po≠, detours, and all steps together.
-use mathlib.Core.Path.{◌≡◌, refl, sym, subst, ◌∙◌}
+use mathlib.Core.Path.{◌≡◌, sym, subst, ◌∙◌}
 use mathlib.Core.List.{List}
-use mathlib.Core.Logic.{◌⊎◌, inl, inr, ⊎_elim}
+use mathlib.Core.Logic.{⊎_elim}
 use Prim.Native.Nat.{ℕ, zero, suc, ◌<◌}
 use native.Mathlib.Nat.{not-suc-le-zero}
 use native.Mathlib.Omega.{arith}
 use native.Mathlib.Decide.{ℕ_discrete, dec_lt}
-use lib.Dec.{T}
 use lib.ListN.{get_or}
-use Rattle.laws.specs.Steps.{Rel, Plus, one, more}
-use Rattle.laws.proofs.Steps.{plus_last}
-use Rattle.rows.specs.Steps.{Leads, Then}
+use Rattle.laws.specs.Steps.{Rel, one, more}
+use Rattle.rows.specs.Steps.{Then}
 use Rattle.combined.specs.Sequential.{Elsewhere, SamePlace, Turned, Turned.straight, Turned.around, Turned.above, StepsBy, StepsBy.at_one_place, StepsBy.by_detour, StepsBy.by_over, Among}
-use Rattle.model.specs.Table.{Table, Inside, Parent, Source, SC, OneLocation}
-use Rattle.model.specs.Relations.{Po, PoOrSw, by_po, Hb, Wb, Fr, PoDiff, PoHbPo, HbscBy, at_one_location, by-po≠, by-po≠-hb-po≠, Hbsc, ScStepBy, by_hbsc, by_fr, ScStep}
+use Rattle.model.specs.Table.{Table, Parent, SC, OneLocation}
+use Rattle.model.specs.Relations.{Po, by_po, Hb, Wb, PoDiff, HbscBy, at_one_location, by-po≠, by-po≠-hb-po≠, ScStepBy, by_hbsc, by_fr, ScStep}
 use Rattle.model.proofs.Facts.{parent_earlier, sc_inside, location_left}
 use Rattle.model.proofs.Laws.{po_iff_parent}
-use Rattle.model.proofs.Within.{po_rises, po_within, hb_within}
+use Rattle.model.proofs.Within.{po_within}
 use Rattle.columns.specs.Columns.{no_place, parent_number, place_number, order_number, Column, Known}
 use Rattle.columns.specs.Sequential.{StandsAt, Detour, direct, by_way_of_hb, Overtaken}
-use Rattle.columns.proofs.Facts.{inside, below, led_by_parent, parent_leads, order_sc, sc_order, one_place, one_location, located}
+use Rattle.columns.proofs.Facts.{below, led_by_parent, parent_leads, order_sc, sc_order, one_place, one_location, located}
 
 module _ {t : Table} {n : ℕ} (k : Known t n) {place : List ℕ} (p : Column n (place_number t) place) where
   here_location : {a b : ℕ} → b < n → StandsAt n place a (get_or place b 0) → OneLocation t a b

@@ -1,19 +1,17 @@
 -- What shows a finding, by columns and by relations that are held.
-use mathlib.Core.Path.{◌≡◌, refl, sym, subst}
 use mathlib.Core.List.{List}
-use mathlib.Core.Logic.{◌⊎◌, inl, inr}
 use Prim.Native.Nat.{ℕ, ◌<◌, ◌≤◌}
 use native.Mathlib.Omega.{arith}
 use lib.ListN.{get_or}
 use Rattle.laws.specs.Steps.{Rel}
 use Rattle.rows.specs.Steps.{Leads, Then}
 use Rattle.pairs.specs.Tokens.{TwoTaken}
-use Rattle.model.specs.Table.{Table, Source, Write}
+use Rattle.model.specs.Table.{Table, Source}
 use Rattle.model.specs.Relations.{Hb, Conflict, EarlierRace}
-use Rattle.model.specs.Findings.{ShowsA2, ShowsA3, ShowsA5, ShowsW}
+use Rattle.model.specs.Findings.{ShowsA3, ShowsA5, ShowsW}
 use Rattle.model.proofs.Within.{source_within}
 use Rattle.columns.specs.Columns.{source_number, kind_number, Column, Known}
-use Rattle.columns.proofs.Facts.{inside, below, led_by_source, source_leads, kind_writes, writes_kind_lem, kind_updates, updates_kind}
+use Rattle.columns.proofs.Facts.{below, led_by_source, source_leads, kind_writes, writes_kind_lem, kind_updates, updates_kind}
 use Rattle.columns.proofs.Apart.{AndConflict}
 
 -- a is a reader of s

@@ -1,19 +1,16 @@
 -- wb0 by columns: owners, and what is handed on to them.
-use mathlib.Core.Path.{◌≡◌, refl, sym, subst, ◌∙◌}
+use mathlib.Core.Path.{◌≡◌, refl, sym, ◌∙◌}
 use mathlib.Core.List.{List}
-use Prim.Native.Nat.{ℕ, ◌<◌, ◌≤◌}
-use native.Mathlib.Omega.{arith}
+use Prim.Native.Nat.{ℕ, ◌<◌}
 use lib.ListN.{get_or}
-use Rattle.laws.specs.Steps.{Rel, Plus}
-use Rattle.rows.specs.Steps.{Leads, ByEither, Then}
 use Rattle.combined.specs.Columns.{WritesAt}
 use Rattle.combined.specs.Writes.{Owning, Owning.itself, Owning.as_source, HandedOn}
-use Rattle.model.specs.Table.{Table, Source, Write, OneLocation}
-use Rattle.model.specs.Relations.{Hb, WriteOrReader, the_write, a_reader, Wb0}
-use Rattle.model.proofs.Facts.{source_is_earlier_write, location_sym, write_inside}
-use Rattle.model.proofs.Within.{hb_rises, hb_within}
+use Rattle.model.specs.Table.{Table, Write}
+use Rattle.model.specs.Relations.{WriteOrReader, the_write, a_reader, Wb0}
+use Rattle.model.proofs.Facts.{source_is_earlier_write, write_inside}
+use Rattle.model.proofs.Within.{hb_within}
 use Rattle.columns.specs.Columns.{parent_number, sync_number, source_number, place_number, kind_number, Column, Known}
-use Rattle.columns.proofs.Facts.{inside, below, write_located, kind_writes, writes_kind_lem, led_by_source, source_leads, one_place, one_location}
+use Rattle.columns.proofs.Facts.{below, write_located, kind_writes, writes_kind_lem, led_by_source, source_leads, one_place, one_location}
 use Rattle.columns.proofs.Before.{hb_told, told_hb}
 
 module _

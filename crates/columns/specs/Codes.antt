@@ -1,5 +1,5 @@
 -- Columns from bytes.
-use Rattle.std.specs.Prelude.{Bool, true, false, ◌&&◌, ◌||◌, List, ℕ, ◌≤◌, eqb, ltb, leb, length}
+use Rattle.std.specs.Prelude.{Bool, ◌&&◌, ◌||◌, List, ℕ, ◌≤◌, eqb, ltb, leb, length}
 use Rattle.record.specs.Form.{pick}
 use Rattle.columns.specs.Columns.{no_number, no_place}
 

@@ -4,7 +4,7 @@ use Rattle.events.specs.declared.Link.{Link}
 use Rattle.events.specs.declared.Link.TheVariants.{Absent, To}
 use Rattle.events.specs.declared.Event.{Event}
 use Rattle.events.specs.declared.Event.TheVariants.{Init, Load, Store, Update}
-use Rattle.events.specs.Words.{is_init, order_of, code_of, acquires, releases}
+use Rattle.events.specs.Words.{order_of, code_of, acquires, releases}
 use Rattle.limits.specs.Limit.{limit}
 use Rattle.rows.specs.Rows.{Outside}
 use Rattle.model.specs.Table.{Table}

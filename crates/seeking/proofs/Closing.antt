@@ -5,14 +5,13 @@ use Prim.Native.Nat.{ℕ, ◌<◌}
 use lib.ListN.{get_or}
 use Rattle.laws.specs.Steps.{Plus}
 use Rattle.laws.proofs.Steps.{plus_to, plus_within}
-use Rattle.rows.specs.Rows.{On, Cell, Room, Holds, Outside, Made}
+use Rattle.rows.specs.Rows.{On, Cell, Room, Holds, Made}
 use Rattle.rows.specs.Steps.{Then}
 use Rattle.rows.proofs.Rows.{holds_iff, made_iff, made_trans, made_room}
 use Rattle.closure.specs.Classes.{InClasses}
-use Rattle.combined.specs.Columns.{WritesAt}
 use Rattle.model.specs.Table.{Table, Source}
 use Rattle.model.specs.Relations.{Wb0, Wb}
-use Rattle.columns.specs.Columns.{place_number, kind_number, Column, Known}
+use Rattle.columns.specs.Columns.{Known}
 use Rattle.columns.specs.Sequential.{Overtaken}
 use Rattle.columns.proofs.Facts.{writes_kind_lem, one_place}
 use Rattle.seeking.specs.Sequential.{Closed, Sequenced}

@@ -11,7 +11,7 @@ use Rattle.model.specs.Relations.{Hb}
 use Rattle.model.specs.Findings.{ShowsA3}
 use Rattle.model.proofs.Facts.{one_source}
 use Rattle.columns.specs.Columns.{parent_number, arm_number, source_number, Column, Known}
-use Rattle.columns.proofs.Apart.{AndConflict, apart_conflicts, conflict_apart}
+use Rattle.columns.proofs.Apart.{apart_conflicts, conflict_apart}
 use Rattle.columns.proofs.Shown.{a3_told, told_a3}
 
 module _

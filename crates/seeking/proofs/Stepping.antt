@@ -12,7 +12,7 @@ use Rattle.rows.proofs.Rows.{made_iff}
 use Rattle.cycle.proofs.Trimming.{none_back}
 use Rattle.combined.specs.Sequential.{StepsBy, StepsBy.at_one_place, StepsBy.by_detour, StepsBy.by_wb, StepsBy.by_over, Among}
 use Rattle.model.specs.Table.{Table}
-use Rattle.model.specs.Relations.{Hb, Wb, ScStep}
+use Rattle.model.specs.Relations.{Hb, ScStep}
 use Rattle.model.proofs.Facts.{sc_inside}
 use Rattle.columns.specs.Columns.{place_number, order_number, Column, Known}
 use Rattle.columns.specs.Sequential.{StandsAt, Detour}

@@ -1,5 +1,4 @@
 -- `lay` meets its contract: hb by steps, conflict, and with both the races.
-use borrow.Author.Rules.{rules}
 use Rattle.rows.proofs.Rows.{made_iff, made_room, room_kept}
 use Rattle.columns.proofs.Before.{hb_told, told_hb}
 use Rattle.columns.proofs.Races.{races_told, told_races, races_by}
@@ -11,7 +10,7 @@ races-requires c = let pre = c.requires in (
     placed = pre.1.placed;
     orders = pre.1.orders;
     for_hb = made_room pre.1.for_hb c.before-2.ensures;
-    for_cf = room_kept c.lay_conflict.auto.1.1.1.1.1.0 pre.0.for_cf;
+    for_cf = room_kept c.lay_conflict.auto.cf pre.0.for_cf;
     for_at = pre.1.for_at;
     for_na = pre.1.for_na;
   },

@@ -1,5 +1,4 @@
 -- `lay_conflict` meets its contract: what each number's own row makes, or empty rows where nothing forks.
-use borrow.Author.Rules.{rules}
 use Rattle.laws.proofs.Says.{denied}
 use Rattle.basis.proofs.Conflicts.{conflict_made, no_conflict}
 use Rattle.basis.proofs.lay_conflict.Goals as goal

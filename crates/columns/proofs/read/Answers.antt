@@ -1,21 +1,13 @@
 -- `read` meets its contract: of the first b records the columns say what the bytes do.
 use mathlib.Core.Path.{◌≡◌, ap₂, ◌∙◌}
-use mathlib.Core.List.{List}
-use Prim.Native.Nat.{ℕ, ◌-◌, ◌<◌, ◌≤◌}
+use Prim.Native.Nat.{ℕ}
 use native.Mathlib.Omega.{arith}
-use lib.ListN.{length}
 use Rattle.record.specs.Form.{order_byte, part}
-use Rattle.table.specs.Events.{events_of}
-use Rattle.facts.specs.Sound.{One, Counted}
 use Rattle.facts.proofs.Records.{one_of}
-use Rattle.columns.specs.Codes.{place_from, arm_from, sync_from, Lent}
+use Rattle.columns.specs.Codes.{place_from, arm_from, sync_from}
 use Rattle.columns.proofs.BytesTell.{parent_byte_lem, arm_bytes, source_byte_lem, sync_bytes, place_byte, kind_byte_lem, order_byte_lem, known}
-use Rattle.columns.proofs.Filling.{FilledTo, filled_more, none_filled, whole_filled, all_filled, rest_left}
+use Rattle.columns.proofs.Filling.{filled_more, none_filled, whole_filled, all_filled, rest_left}
 use Rattle.columns.proofs.read.Goals as goal
-
--- record b is one of the table's
-this : (c : tie.At-loop invariant_loop decreases_loop) → c.loop.b < (entry c).args.n → One (entry c).args.table.now c.loop.b
-this c = one_of c.loop.invariant.0
 
 pub bounds-parent-b : goal.bounds-parent-b
 bounds-parent-b c = let i = c.loop-b.invariant in omega (arith, i.1.for_parent, i.3.parents.rest.size, c.loop-b-test.true)
@@ -41,6 +33,7 @@ bounds-order-b c = let i = c.loop-b.invariant in omega (arith, i.1.for_order, i.
 pub loop-b-preserved : goal.loop-b-preserved
 loop-b-preserved c = let low = c.loop-b-test.true in
     let counted = c.loop-b.invariant.0 in
+    let this = one_of counted low in
     let room = c.loop-b.invariant.1 in
     let f = c.loop-b.invariant.3 in
     let table = c.args.table.now in
@@ -54,13 +47,13 @@ loop-b-preserved c = let low = c.loop-b-test.true in
       room,
       omega (arith, low),
       record {
-        parents = filled_more _ (omega (arith, low, room.for_parent)) (p ∙ parent_byte_lem (this turn low)) f.parents;
-        arms = filled_more _ (omega (arith, low, room.for_arm)) (c.arm_from.ensures ∙ (ap₂ arm_from k p ∙ arm_bytes (this turn low))) f.arms;
-        sources = filled_more _ (omega (arith, low, room.for_source)) (s ∙ source_byte_lem (this turn low)) f.sources;
+        parents = filled_more _ (omega (arith, low, room.for_parent)) (p ∙ parent_byte_lem this) f.parents;
+        arms = filled_more _ (omega (arith, low, room.for_arm)) (c.arm_from.ensures ∙ (ap₂ arm_from k p ∙ arm_bytes this)) f.arms;
+        sources = filled_more _ (omega (arith, low, room.for_source)) (s ∙ source_byte_lem this) f.sources;
         syncs = filled_more _ (omega (arith, low, room.for_sync)) (c.sync_of.ensures ∙ (ap₂ (λ (u v : ℕ). sync_from at u v (order_byte (part table u))) s o ∙ sync_bytes counted at low)) f.syncs;
-        places = filled_more _ (omega (arith, low, room.for_place)) (c.place_from.ensures ∙ (ap₂ place_from k x ∙ place_byte (this turn low))) f.places;
-        kinds = filled_more _ (omega (arith, low, room.for_kind)) (k ∙ kind_byte_lem (this turn low)) f.kinds;
-        orders = filled_more _ (omega (arith, low, room.for_order)) (o ∙ order_byte_lem (this turn low)) f.orders;
+        places = filled_more _ (omega (arith, low, room.for_place)) (c.place_from.ensures ∙ (ap₂ place_from k x ∙ place_byte this)) f.places;
+        kinds = filled_more _ (omega (arith, low, room.for_kind)) (k ∙ kind_byte_lem this) f.kinds;
+        orders = filled_more _ (omega (arith, low, room.for_order)) (o ∙ order_byte_lem this) f.orders;
       },
     )
 
@@ -74,19 +67,19 @@ pub loop-b-init : goal.loop-b-init
 loop-b-init c = let pre = c.requires in (pre.0, pre.1, omega arith, none_filled)
 
 pub byte-k-requires : goal.byte-k-requires
-byte-k-requires c = (this c c.loop-b-test.true, omega arith)
+byte-k-requires c = (one_of c.loop-b.invariant.0 c.loop-b-test.true, omega arith)
 
 pub byte-o-requires : goal.byte-o-requires
-byte-o-requires c = (this c c.loop-b-test.true, omega arith)
+byte-o-requires c = (one_of c.loop-b.invariant.0 c.loop-b-test.true, omega arith)
 
 pub byte-p-requires : goal.byte-p-requires
-byte-p-requires c = (this c c.loop-b-test.true, omega arith)
+byte-p-requires c = (one_of c.loop-b.invariant.0 c.loop-b-test.true, omega arith)
 
 pub byte-s-requires : goal.byte-s-requires
-byte-s-requires c = (this c c.loop-b-test.true, omega arith)
+byte-s-requires c = (one_of c.loop-b.invariant.0 c.loop-b-test.true, omega arith)
 
 pub byte-x-requires : goal.byte-x-requires
-byte-x-requires c = (this c c.loop-b-test.true, omega arith)
+byte-x-requires c = (one_of c.loop-b.invariant.0 c.loop-b-test.true, omega arith)
 
 pub sync_of-requires : goal.sync_of-requires
 sync_of-requires c = (c.loop-b.invariant.0, c.loop-b-test.true)

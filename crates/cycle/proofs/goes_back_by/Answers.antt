@@ -1,9 +1,7 @@
 -- `goes_back_by` meets its contract: no step to a number below b goes back.
-use Prim.Native.Nat.{ℕ, ◌-◌, ◌≤◌, ◌<◌}
 use native.Mathlib.Omega.{arith}
 use borrow.Author.Count.{below_more}
 use Rattle.laws.proofs.Says.{says_yes, says_no}
-use Rattle.rows.specs.Rows.{Cell}
 use Rattle.rows.proofs.Rows.{room_row}
 use Rattle.cycle.proofs.goes_back_by.Goals as goal
 

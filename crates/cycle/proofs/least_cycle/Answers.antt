@@ -1,7 +1,6 @@
 -- `least_cycle` meets its contract: no step goes back, or the least cycle lies among what is alive.
 use mathlib.Core.Path.{refl}
 use native.Mathlib.Omega.{arith}
-use borrow.Author.Rules.{rules}
 use Rattle.laws.proofs.Says.{denied}
 use Rattle.findings.proofs.Meant.{finds_in_iff, found_no_cycle}
 use Rattle.cycle.proofs.Trimming.{none_back, witness_kept, witness_was}

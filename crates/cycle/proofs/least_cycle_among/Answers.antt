@@ -1,7 +1,6 @@
 -- `least_cycle_among` meets its contract: the least closed walk from the least start, or no start.
 use mathlib.Core.Path.{refl}
 use native.Mathlib.Omega.{arith}
-use borrow.Author.Rules.{rules}
 use Rattle.findings.proofs.Meant.{found_cycle, found_no_cycle}
 use Rattle.rows.proofs.Rows.{room_kept}
 use Rattle.cycle.proofs.Layering.{reach_alive}
@@ -14,7 +13,7 @@ write_cycle-requires c = let q = c.requires in
     let f = start.ensures.there c.if-s-n.true in
     record {
       has = record {
-        has = record { matrix = q.has.matrix; row = q.has.row; low = q.has.low; room = room_kept start.auto.1.1.1.1.1.0 q.has.room };
+        has = record { matrix = q.has.matrix; row = q.has.row; low = q.has.low; room = room_kept start.auto.layers q.has.room };
         start = reach_alive f.reach;
       };
       back = record { steps = f.best; few = f.small; reach = f.reach };

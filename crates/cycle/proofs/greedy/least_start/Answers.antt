@@ -1,14 +1,10 @@
 -- `greedy::least_start` meets its contract: `best` is the fewest of those below s, `at` the first that has it, and `rest` has the numbers from s on.
-use mathlib.Core.Path.{◌≡◌, refl, ◌∙◌}
-use mathlib.Core.Logic.{⊎_elim}
-use Prim.Native.Nat.{◌-◌, ◌*◌, ◌<◌}
+use mathlib.Core.Path.{refl, ◌∙◌}
 use native.Mathlib.Omega.{arith}
-use lib.ListN.{length}
-use Rattle.rows.specs.Rows.{On}
 use Rattle.rows.proofs.Rows.{room_row, room_kept}
-use Rattle.cycle.specs.Rounds.{Rest}
-use Rattle.cycle.proofs.Starts.{Sofar, start_none, start_take, start_keep, start_end, rest_all, rest_less}
+use Rattle.cycle.proofs.Starts.{start_none, start_take, start_keep, start_end, rest_all, rest_less}
 use Rattle.cycle.proofs.greedy.least_start.Goals as goal
+use Rattle.cycle.proofs.greedy.least_start.Goals.{then-len-best, else-len-best}
 
 pub overflow_add-best : goal.overflow_add-best
 overflow_add-best c = let room = c.requires.0.row in omega (arith, room.wide, room.width.most)
@@ -43,11 +39,13 @@ overflow_add-s c = let room = c.requires.0.row in
 pub loop-s-preserved : goal.loop-s-preserved
 loop-s-preserved c = let f = c.next-s-in-loop-s.ensures in
     let i = c.loop-s.invariant in (
-      c.drop.auto.0 ∙ i.0,
-      c.steps_back-len.auto.1.1.1.1.1.1.0 ∙ i.1,
+      c.drop.auto.m ∙ i.0,
+      c.steps_back-len.auto.layers ∙ i.1,
       rest_less c.drop.ensures f i.2,
-      ⊎_elim (λ w. rw (w.1, w.2) (start_take i.2 c.steps_back-len.ensures f w.0.taken c.loop-s-test.true i.3))
-          (λ w. rw (w.1, w.2) (start_keep i.2 c.steps_back-len.ensures f w.0.left i.3)) c.if-len-best.branch,
+      elim c.if-len-best.branch [
+        | then-len-best w ↦ rw (w.best-is, w.at-is) (start_take i.2 c.steps_back-len.ensures f w.if-len-best.true c.loop-s-test.true i.3)
+        | else-len-best w ↦ rw (w.best-is, w.at-is) (start_keep i.2 c.steps_back-len.ensures f w.if-len-best.false i.3)
+      ],
       f.on,
     )
 

@@ -1,13 +1,10 @@
 -- `greedy::least_start` meets its contract: `best` is the fewest of those below s, `at` the first that has it, and `rest` has the numbers from s on.
-use mathlib.Core.Path.{◌≡◌, refl, ◌∙◌}
-use mathlib.Core.Logic.{⊎_elim}
+use mathlib.Core.Path.{◌≡◌}
 use Prim.Native.Nat.{◌-◌, ◌*◌, ◌<◌}
-use native.Mathlib.Omega.{arith}
 use lib.ListN.{length}
 use Rattle.rows.specs.Rows.{On}
-use Rattle.rows.proofs.Rows.{room_row, room_kept}
 use Rattle.cycle.specs.Rounds.{Rest}
-use Rattle.cycle.proofs.Starts.{Sofar, start_none, start_take, start_keep, start_end, rest_all, rest_less}
+use Rattle.cycle.proofs.Starts.{Sofar}
 use Rattle.cycle.proofs.greedy.least_start.Given as goal
 
 abbrev pub invariant-loop-s : goal.invariant-loop-s

@@ -1,8 +1,6 @@
 -- `greedy::next_of` meets its contract: a has no step to a number of the row below x.
-use Prim.Native.Nat.{ℕ, ◌-◌, ◌*◌, ◌<◌}
 use native.Mathlib.Omega.{arith}
 use Rattle.laws.proofs.Says.{said, denied}
-use Rattle.rows.specs.Rows.{On}
 use Rattle.rows.proofs.Along.{along_none, along_more}
 use Rattle.rows.proofs.Rows.{room_row}
 use Rattle.cycle.proofs.greedy.next_of.Goals as goal

@@ -1,14 +1,10 @@
 -- `greedy::write_cycle` meets its contract: the first i numbers of the list are written, and what is least from the last makes the whole least.
-use mathlib.Core.Path.{◌≡◌, refl, ◌∙◌}
-use Prim.Native.Nat.{◌+◌, ◌-◌, ◌<◌, ◌≤◌}
-use native.Mathlib.Omega.{arith}
-use borrow.Author.Rules.{rules}
-use lib.ListN.{length, length-set}
-use Rattle.rows.proofs.Rows.{room_row, room_kept}
+use mathlib.Core.Path.{◌≡◌}
+use Prim.Native.Nat.{◌-◌, ◌≤◌}
+use lib.ListN.{length}
 use Rattle.cycle.specs.Rounds.{Step}
-use Rattle.cycle.proofs.Layering.{reach_alive}
-use Rattle.cycle.proofs.Starts.{Left, back_short, back_some, left_all, left_one, next_there, next_step, next_left, next_least}
-use Rattle.cycle.proofs.Writing.{Writing, writing_first, writing_on, writing_close}
+use Rattle.cycle.proofs.Starts.{Left}
+use Rattle.cycle.proofs.Writing.{Writing}
 use Rattle.cycle.proofs.greedy.write_cycle.Given as goal
 
 abbrev pub invariant-loop-i : goal.invariant-loop-i

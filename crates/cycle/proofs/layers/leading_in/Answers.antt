@@ -1,10 +1,7 @@
 -- `layers::leading_in` meets its contract: the numbers of the row below c are looked at.
-use Prim.Native.Nat.{◌-◌, ◌*◌, ◌<◌}
 use native.Mathlib.Omega.{arith}
-use Rattle.rows.specs.Sets.{Is}
-use Rattle.rows.specs.Rows.{On}
 use Rattle.rows.proofs.Rows.{room_row}
-use Rattle.cycle.proofs.Layering.{EntersBelow, enters_none, enters_more, enters_all}
+use Rattle.cycle.proofs.Layering.{enters_none, enters_more, enters_all}
 use Rattle.cycle.proofs.layers.leading_in.Goals as goal
 
 pub loop-c-init : goal.loop-c-init

@@ -1,6 +1,5 @@
 -- `layers::next_layer` meets its contract: what has a step to the last layer, is alive and was not met.
 use native.Mathlib.Omega.{arith}
-use borrow.Author.Rules.{rules}
 use Rattle.rows.proofs.Rows.{room_row}
 use Rattle.rows.proofs.Sets.{both_of, without_of}
 use Rattle.cycle.proofs.Layering.{layers_more}

@@ -1,5 +1,4 @@
 -- `layers::steps_back` meets its contract: as it is for one word, two, and four.
-use borrow.Author.Rules.{rules}
 use Rattle.rows.proofs.Rows.{four_words}
 use Rattle.cycle.proofs.layers.steps_back.Goals as goal
 

@@ -1,23 +1,21 @@
 -- `layers::steps_back_by` meets its contract: up to e steps do not lead from s back to s.
 use mathlib.Core.Path.{◌≡◌, refl, ◌∙◌}
-use Prim.Native.Nat.{ℕ, ◌+◌, ◌-◌, ◌≤◌}
+use Prim.Native.Nat.{◌+◌}
 use native.Mathlib.Omega.{arith}
 use lib.ListN.{length}
 use Rattle.laws.proofs.Says.{said, denied}
-use Rattle.rows.specs.Sets.{Is}
 use Rattle.rows.specs.Rows.{Room}
 use Rattle.rows.proofs.Rows.{room_row, room_kept}
 use Rattle.rows.proofs.Sets.{is_iff}
-use Rattle.cycle.specs.Distances.{Reaches}
-use Rattle.cycle.specs.Rounds.{Step, Upto, Layers}
 use Rattle.cycle.proofs.Layering.{upto_none, met_more, none_more, back_found, back_past, back_empty}
 use Rattle.cycle.proofs.layers.steps_back_by.Goals as goal
+use Rattle.cycle.proofs.layers.steps_back_by.Goals.{At-loop-e}
 
-size : (c : tie.At-loop invariant_loop decreases_loop) → length c.loop.layers ≡ length (entry c).args.layers.now
-size c = c.loop.invariant.1 ∙ c.before.before.before.before.first-layer.auto.1.1.1.1.1.0
+size : (c : At-loop-e) → length c.loop-e.layers ≡ length c.args.layers.now
+size c = c.loop-e.invariant.1 ∙ c.first_layer.auto.layers
 
-room : (c : tie.At-loop invariant_loop decreases_loop) → let a = (entry c).args in Room a.w a.n (a.n + 1) c.loop.layers
-room c = room_kept (size c) (entry c).requires.0.has.room
+room : (c : At-loop-e) → Room c.args.w c.args.n (c.args.n + 1) c.loop-e.layers
+room c = room_kept (size c) c.requires.0.has.room
 
 pub loop-e-init : goal.loop-e-init
 loop-e-init c = (
@@ -29,13 +27,13 @@ loop-e-init c = (
 )
 
 pub has-requires : goal.has-requires
-has-requires c = record { col = c.requires.0.start.col; room = (room_row (room c) c.loop-e.e (omega (arith, c.loop-e.invariant.0))).room }
+has-requires c = record { col = c.requires.0.start.col; room = (room_row (room (goal.at.has-requires c).At-loop-e) c.loop-e.e (omega (arith, c.loop-e.invariant.0))).room }
 
 pub returns-then-has : goal.returns-then-has
 returns-then-has c = let i = c.loop-e.invariant in back_found i.2 i.4 c.loop-e-test.true (said c.has.ensures c.if-has.true)
 
 pub row-last-requires : goal.row-last-requires
-row-last-requires c = room_row (room c) _ (omega (arith, c.loop-e.invariant.0))
+row-last-requires c = room_row (room (goal.at.row-last-requires c).At-loop-e) _ (omega (arith, c.loop-e.invariant.0))
 
 pub returns-then-is_empty : goal.returns-then-is_empty
 returns-then-is_empty c = let i = c.loop-e.invariant in
@@ -45,7 +43,7 @@ pub next_layer-requires : goal.next_layer-requires
 next_layer-requires c = let i = c.loop-e.invariant in
     let q = c.requires in
     record {
-      has = record { matrix = q.0.has.matrix; row = q.0.has.row; low = q.0.has.low; room = room c };
+      has = record { matrix = q.0.has.matrix; row = q.0.has.row; low = q.0.has.low; room = room (goal.at.next_layer-requires c).At-loop-e };
       low = omega (arith, q.1, c.loop-e-test.true);
       seen = met_more i.2 i.3 c.row-last.ensures c.either-met.ensures;
       made = i.2;
@@ -57,7 +55,7 @@ overflow_add-e-in-loop-e c = let q = c.requires in
 
 pub loop-e-preserved : goal.loop-e-preserved
 loop-e-preserved c = let i = c.loop-e.invariant in
-    (omega (arith, c.requires.1, c.loop-e-test.true), c.next_layer.auto.1.1.1.1.1.1.1.0 ∙ i.1, c.next_layer.ensures, met_more i.2 i.3 c.row-last.ensures c.either-met.ensures, none_more i.2 i.4 (denied c.has.ensures c.if-has.false))
+    (omega (arith, c.requires.1, c.loop-e-test.true), c.next_layer.auto.layers ∙ i.1, c.next_layer.ensures, met_more i.2 i.3 c.row-last.ensures c.either-met.ensures, none_more i.2 i.4 (denied c.has.ensures c.if-has.false))
 
 pub returns : goal.returns
 returns c = let i = c.loop-e.invariant in back_past i.2 i.4 c.loop-e-test.false
@@ -66,10 +64,10 @@ pub first_layer-requires : goal.first_layer-requires
 first_layer-requires c = c.requires.0
 
 pub shape_of-layers-then-has : goal.shape_of-layers-then-has
-shape_of-layers-then-has c = size c
+shape_of-layers-then-has c = size (goal.at.shape_of-layers-then-has c).At-loop-e
 
 pub shape_of-layers-then-is_empty : goal.shape_of-layers-then-is_empty
-shape_of-layers-then-is_empty c = size c
+shape_of-layers-then-is_empty c = size (goal.at.shape_of-layers-then-is_empty c).At-loop-e
 
 pub shape_of-layers : goal.shape_of-layers
-shape_of-layers c = size c
+shape_of-layers c = size (goal.at.shape_of-layers c).At-loop-e

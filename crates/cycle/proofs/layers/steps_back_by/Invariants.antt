@@ -1,16 +1,10 @@
 -- `layers::steps_back_by` meets its contract: up to e steps do not lead from s back to s.
-use mathlib.Core.Path.{◌≡◌, refl, ◌∙◌}
+use mathlib.Core.Path.{◌≡◌}
 use Prim.Native.Nat.{ℕ, ◌+◌, ◌-◌, ◌≤◌}
-use native.Mathlib.Omega.{arith}
 use lib.ListN.{length}
-use Rattle.laws.proofs.Says.{said, denied}
 use Rattle.rows.specs.Sets.{Is}
-use Rattle.rows.specs.Rows.{Room}
-use Rattle.rows.proofs.Rows.{room_row, room_kept}
-use Rattle.rows.proofs.Sets.{is_iff}
 use Rattle.cycle.specs.Distances.{Reaches}
 use Rattle.cycle.specs.Rounds.{Step, Upto, Layers}
-use Rattle.cycle.proofs.Layering.{upto_none, met_more, none_more, back_found, back_past, back_empty}
 use Rattle.cycle.proofs.layers.steps_back_by.Given as goal
 
 abbrev pub invariant-loop-e : goal.invariant-loop-e

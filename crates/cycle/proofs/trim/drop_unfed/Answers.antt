@@ -1,7 +1,6 @@
 -- `trim::drop_unfed` meets its contract: what nothing alive leads to is dropped up to b, and what leads to the rest is taken in.
 use mathlib.Core.Path.{◌≡◌, refl, ◌∙◌}
-use mathlib.Core.Logic.{⊎_elim}
-use Prim.Native.Nat.{◌+◌, ◌-◌}
+use Prim.Native.Nat.{◌+◌}
 use native.Mathlib.Omega.{arith}
 use lib.ListN.{length}
 use Rattle.laws.proofs.Says.{said}
@@ -10,18 +9,20 @@ use Rattle.rows.proofs.Sets.{both_of}
 use Rattle.cycle.specs.Trimmed.{Feeds}
 use Rattle.cycle.proofs.Trimming.{feeds_none, feeds_drop, feeds_take, feeds_next, feeds_end}
 use Rattle.cycle.proofs.trim.drop_unfed.Goals as goal
+use Rattle.cycle.proofs.trim.drop_unfed.Goals.{Joined-is_empty, then-is_empty, else-is_empty}
 
 -- b was dropped, or what leads to it was taken in
 passed :
-    (c : tie.Joined1 invariant_loop decreases_loop) → let a = (entry c.before).args in
-    (length c.if1.alive ≡ length a.alive.now) × Feeds a.w a.n a.m.now (c.before.before.before.before.before.before.before.loop.b + 1) c.if1.alive c.if1.sources
+    (c : Joined-is_empty)
+    → (length c.if-is_empty.alive ≡ length c.args.alive.now) × Feeds c.args.w c.args.n c.args.m.now (c.loop-b.b + 1) c.if-is_empty.alive c.if-is_empty.sources
 passed c =
-    let i = c.before.before.before.before.before.before.before.loop.invariant in
-    let fed = both_of c.before.before.before.before.before.row.ensures c.before.before.before.row2.ensures c.before.before.both.ensures in
-    ⊎_elim
-    (λ w. rw (w.5, w.6) (w.2.ensures.rest.size ∙ i.0, feeds_drop (λ a z. said c.before.is-empty.ensures w.0.taken a (fed.all a z)) w.2.ensures i.1))
-    (λ w. rw (w.2, w.3) (i.0, feeds_take c.before.before.before.before.before.row.ensures w.1.ensures i.1))
-    c.if1.branch
+    let i = c.loop-b.invariant in
+    let fed = both_of c.row-before.ensures c.row.ensures c.both.ensures in
+    elim c.if-is_empty.branch [
+      | then-is_empty w ↦
+          rw (w.alive-is, w.sources-is) (w.drop.ensures.rest.size ∙ i.0, feeds_drop (λ a z. said c.is_empty.ensures w.if-is_empty.true a (fed.all a z)) w.drop.ensures i.1)
+      | else-is_empty w ↦ rw (w.alive-is, w.sources-is) (i.0, feeds_take c.row-before.ensures w.either-sources.ensures i.1)
+    ]
 
 pub loop-b-init : goal.loop-b-init
 loop-b-init c = (refl, feeds_none c.requires.keeps c.next-b.ensures)
@@ -39,10 +40,10 @@ overflow_add-b c = let room = c.requires.has.row in
 
 pub next-b-requires-in-loop-b : goal.next-b-requires-in-loop-b
 next-b-requires-in-loop-b c = let room = c.requires.has.row in
-    (room_row (room_kept (passed c).0 room) 0 (omega arith), omega (arith, room.wide))
+    (room_row (room_kept (passed (goal.at.next-b-requires-in-loop-b c).Joined-is_empty).0 room) 0 (omega arith), omega (arith, room.wide))
 
 pub loop-b-preserved : goal.loop-b-preserved
-loop-b-preserved c = let (size, fed) = passed c in (size, feeds_next c.next-b-in-loop-b.ensures fed)
+loop-b-preserved c = let (size, fed) = passed (goal.at.loop-b-preserved c).Joined-is_empty in (size, feeds_next c.next-b-in-loop-b.ensures fed)
 
 pub shape_of-alive : goal.shape_of-alive
 shape_of-alive c = c.loop-b.invariant.0

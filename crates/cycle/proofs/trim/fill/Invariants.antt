@@ -1,12 +1,9 @@
 -- `trim::fill` meets its contract: the row has the numbers below a.
-use mathlib.Core.Path.{◌≡◌, refl, ◌∙◌}
+use mathlib.Core.Path.{◌≡◌}
 use Prim.Native.Nat.{◌-◌, ◌≤◌}
-use native.Mathlib.Omega.{arith}
 use lib.ListN.{length}
 use Rattle.rows.specs.Rows.{Room}
-use Rattle.rows.proofs.Rows.{room_row, room_kept}
 use Rattle.cycle.specs.Trimmed.{Filled}
-use Rattle.cycle.proofs.Trimming.{filled_none, filled_more}
 use Rattle.cycle.proofs.trim.fill.Given as goal
 
 abbrev pub invariant-loop-a : goal.invariant-loop-a

@@ -1,5 +1,4 @@
 -- `trim::trim` meets its contract: as it is for one word, two, and four.
-use borrow.Author.Rules.{rules}
 use Rattle.rows.proofs.Rows.{four_words}
 use Rattle.cycle.proofs.trim.trim.Goals as goal
 

@@ -1,6 +1,5 @@
 -- `trim::trim_pass` meets its contract: what is left is fed and feeds.
 use native.Mathlib.Omega.{arith}
-use borrow.Author.Rules.{rules}
 use Rattle.rows.proofs.Rows.{room_row, room_kept}
 use Rattle.rows.proofs.Sets.{is_iff}
 use Rattle.cycle.proofs.Trimming.{keeps_fed}
@@ -10,10 +9,10 @@ pub drop_unfed-sources-requires : goal.drop_unfed-sources-requires
 drop_unfed-sources-requires c = c.requires
 
 pub row-requires : goal.row-requires
-row-requires c = room_row (room_kept c.drop_unfed-sources.auto.1.1.1.0 c.requires.has.row) 0 (omega arith)
+row-requires c = room_row (room_kept c.drop_unfed-sources.auto.alive c.requires.has.row) 0 (omega arith)
 
 pub put-requires : goal.put-requires
-put-requires c = room_row (room_kept c.drop_unfed-sources.auto.1.1.1.0 c.requires.has.row) 0 (omega arith)
+put-requires c = room_row (room_kept c.drop_unfed-sources.auto.alive c.requires.has.row) 0 (omega arith)
 
 pub returns : goal.returns
 returns c = let alive = c.row.ensures in

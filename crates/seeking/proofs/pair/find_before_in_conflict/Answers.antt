@@ -1,5 +1,4 @@
 -- `pair::find_before_in_conflict` meets its contract: the rows are met, and searched.
-use borrow.Author.Rules.{rules}
 use Rattle.seeking.proofs.Pairing.{pair_found, a2_within}
 use Rattle.seeking.proofs.pair.find_before_in_conflict.Goals as goal
 

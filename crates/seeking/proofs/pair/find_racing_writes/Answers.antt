@@ -1,13 +1,12 @@
 -- `pair::find_racing_writes` meets its contract: the rows of writes are searched, where any race.
-use borrow.Author.Rules.{rules}
-use Rattle.laws.proofs.Says.{said, says_not}
+use Rattle.laws.proofs.Says.{denied}
 use Rattle.columns.proofs.Shown.{w_told, told_w}
 use Rattle.seeking.proofs.Pairing.{pair_found, no_pair_found, w_within}
 use Rattle.seeking.proofs.pair.find_racing_writes.Goals as goal
 
 pub returns-then-not-relates_any : goal.returns-then-not-relates_any
 returns-then-not-relates_any c = λ t k kinds race.
-    let none-race = said (says_not c.relates_any.ensures) c.if-not-relates_any.true in
+    let none-race = denied c.relates_any.ensures c.if-not-relates_any.true in
     no_pair_found (λ p q l s. none-race (q, (p, (l, race.all p q l (told_w k kinds l s).1)))) (w_within k)
 
 pub returns : goal.returns

@@ -1,5 +1,4 @@
 -- `pair::find_sources_in_conflict` meets its contract: the readers of what conflicts with each source are met with what is hb before its reader.
-use borrow.Author.Rules.{rules}
 use Rattle.seeking.proofs.Pairing.{pair_found, a3_within}
 use Rattle.seeking.proofs.Sources.{sources_told, told_sources}
 use Rattle.seeking.proofs.pair.find_sources_in_conflict.Goals as goal

@@ -1,7 +1,6 @@
 -- `pair::find_token_taken_twice` meets its contract: those that took from one source are searched, where any two did.
 use native.Mathlib.Omega.{arith}
-use borrow.Author.Rules.{rules}
-use Rattle.laws.proofs.Says.{said, says_not}
+use Rattle.laws.proofs.Says.{denied}
 use Rattle.columns.proofs.Shown.{a5_told, told_a5}
 use Rattle.seeking.proofs.Pairing.{pair_found, no_pair_found, a5_within, taken_by, two_twice}
 use Rattle.seeking.proofs.pair.find_token_taken_twice.Goals as goal
@@ -11,7 +10,7 @@ taken_twice-requires c = let room = c.requires.0 in (room.kinds, room.sources, o
 
 pub returns-then-not-taken_twice : goal.returns-then-not-taken_twice
 returns-then-not-taken_twice c = λ t k kinds sources cf.
-    let none-twice = said (says_not c.taken_twice.ensures) c.if-not-taken_twice.true in
+    let none-twice = denied c.taken_twice.ensures c.if-not-taken_twice.true in
     no_pair_found (λ p q l s. none-twice (two_twice l (told_a5 k sources l kinds s))) (a5_within k)
 
 pub returns : goal.returns

@@ -1,17 +1,8 @@
 -- `reads::find_read` meets its contract: no record below b is an unjustified read.
-use Prim.Native.Nat.{ℕ, ◌+◌, ◌-◌, ◌<◌, ◌≤◌}
-use mathlib.Core.List.{List}
-use native.Mathlib.Omega.{arith}
+use Prim.Native.Nat.{ℕ, ◌-◌, ◌<◌, ◌≤◌}
 use lib.ListN.{length}
-use borrow.Author.Count.{below_more}
-use Rattle.laws.specs.Least.{Least}
-use Rattle.laws.proofs.Says.{said, denied}
-use Rattle.laws.proofs.Passed.{number_found}
-use Rattle.findings.proofs.Meant.{found_record, found_no_record}
 use Rattle.model.specs.Table.{Table}
 use Rattle.model.specs.Findings.{ShowsR}
-use Rattle.model.proofs.Facts.{read_inside}
-use Rattle.columns.proofs.Facts.{below}
 use Rattle.seeking.specs.Reads.{ReadRoom, Reading}
 use Rattle.seeking.proofs.reads.find_read.Given as goal
 

@@ -1,6 +1,5 @@
 -- `reads::justified` meets its contract: the column of sources tells which case it is.
 use native.Mathlib.Omega.{arith}
-use borrow.Author.Rules.{rules}
 use Rattle.laws.proofs.Says.{says_iff}
 use Rattle.rows.proofs.Rows.{room_row}
 use Rattle.links.proofs.Reading.{says_justified, says_justified_without}

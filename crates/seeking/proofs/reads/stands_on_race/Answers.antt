@@ -1,6 +1,5 @@
 -- `reads::stands_on_race` meets its contract: it is told part by part.
 use native.Mathlib.Omega.{arith}
-use borrow.Author.Rules.{rules}
 use Rattle.laws.proofs.Says.{says_no}
 use Rattle.seeking.proofs.Reading.{raced_told, written_told, reads_told, not_without, stands_told}
 use Rattle.seeking.proofs.reads.stands_on_race.Goals as goal

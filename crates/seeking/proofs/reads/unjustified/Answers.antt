@@ -1,5 +1,4 @@
 -- `reads::unjustified` meets its contract: it is told part by part.
-use borrow.Author.Rules.{rules}
 use Rattle.laws.proofs.Says.{says_not, says_and, says_iff}
 use Rattle.seeking.proofs.Reading.{reads_told}
 use Rattle.seeking.proofs.reads.unjustified.Goals as goal

@@ -1,6 +1,5 @@
 -- `sequential::close_writes` meets its contract: wb0 is closed by stages, or by rising rows where no step of it goes back.
 use native.Mathlib.Omega.{arith}
-use borrow.Author.Rules.{rules}
 use Rattle.laws.proofs.Says.{denied}
 use Rattle.rows.proofs.Rows.{made_room}
 use Rattle.cycle.proofs.Trimming.{rising}

@@ -1,7 +1,6 @@
 -- `sequential::find_sc_cycle` meets its contract: no record is SC, or the cycles of the steps are those of the rows.
 use mathlib.Core.Path.{refl}
 use native.Mathlib.Omega.{arith}
-use borrow.Author.Rules.{rules}
 use Rattle.laws.proofs.Says.{said}
 use Rattle.findings.proofs.Meant.{found_no_cycle}
 use Rattle.rows.proofs.Rows.{room_kept, made_room}
@@ -48,33 +47,33 @@ among-requires c = let p = c.requires.0 in
       record {
         placed = p.turning.placed;
         for_orders = record { width = width; wide = p.for_hb.wide; room = omega (arith, width.most, c.sorted.ensures.rest.size) };
-        for_at = room_kept c.turn_around.auto.1.1.1.0 p.turning.for_at;
+        for_at = room_kept c.turn_around.auto.at p.turning.for_at;
         for_hb = p.for_hb;
-        for_detour = room_kept c.turn_around.auto.1.1.1.1.1.1.1.0 p.turning.for_detour;
-        for_wb = room_kept c.close_writes.kept.1.1.1.1.1.1.0 p.for_wb;
-        for_over = room_kept c.close_writes.kept.1.1.1.1.1.1.1.0 p.for_over;
+        for_detour = room_kept c.turn_around.auto.detour p.turning.for_detour;
+        for_wb = room_kept c.close_writes.auto.wb p.for_wb;
+        for_over = room_kept c.close_writes.auto.over p.for_over;
       },
-      room_kept c.turn_around.auto.1.1.1.1.0 p.turning.for_po,
+      room_kept c.turn_around.auto.po p.turning.for_po,
     )
 
 pub goes_back-back_again-requires : goal.goes_back-back_again-requires
-goes_back-back_again-requires c = made_room (room_kept c.turn_around.kept.1.1.1.1.0 c.requires.0.turning.for_po) c.among.ensures
+goes_back-back_again-requires c = made_room (room_kept c.turn_around.auto.po c.requires.0.turning.for_po) c.among.ensures
 
 pub least_cycle-requires : goal.least_cycle-requires
 least_cycle-requires c = let p = c.requires.0 in (
   record {
-    matrix = made_room (room_kept c.turn_around.kept.1.1.1.1.0 p.turning.for_po) c.among.ensures;
-    room = room_kept c.turn_around.kept.1.1.1.1.1.1.0 p.for_layers;
+    matrix = made_room (room_kept c.turn_around.auto.po p.turning.for_po) c.among.ensures;
+    room = room_kept c.turn_around.auto.around p.for_layers;
     answer = p.for_out;
   },
-  c.goes_Back.ensures,
+  c.goes_back-back_again.ensures,
 )
 
 pub shape_of-wb : goal.shape_of-wb
-shape_of-wb c = c.close_writes.auto.1.1.1.1.1.1.0
+shape_of-wb c = c.close_writes.auto.wb
 
 pub shape_of-over : goal.shape_of-over
-shape_of-over c = c.close_writes.auto.1.1.1.1.1.1.1.0
+shape_of-over c = c.close_writes.auto.over
 
 pub returns : goal.returns
 returns c = λ t g.

@@ -1,7 +1,6 @@
 -- `sequential::turn_around` meets its contract: each matrix is told by the ones that it is made of.
 use mathlib.Core.Path.{◌∙◌}
 use native.Mathlib.Omega.{arith}
-use borrow.Author.Rules.{rules}
 use Rattle.rows.proofs.Rows.{room_row, made_room, made_row_room}
 use Rattle.seeking.proofs.Turning.{stands_made, po_made, elsewhere_made, around_made, detour_made}
 use Rattle.seeking.proofs.sequential.turn_around.Goals as goal

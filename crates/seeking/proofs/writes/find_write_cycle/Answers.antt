@@ -1,5 +1,4 @@
 -- `writes::find_write_cycle` meets its contract: the cycles of wb0 are those of the rows.
-use borrow.Author.Rules.{rules}
 use Rattle.seeking.proofs.Cycles.{cycle_found, wb0_within}
 use Rattle.seeking.proofs.writes.find_write_cycle.Goals as goal
 

@@ -1,5 +1,4 @@
 -- `writes::lay_writes` meets its contract: what is handed on is wb0.
-use borrow.Author.Rules.{rules}
 use Rattle.seeking.proofs.Writing.{wb0_made}
 use Rattle.seeking.proofs.writes.lay_writes.Goals as goal
 
