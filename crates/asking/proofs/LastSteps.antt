@@ -6,7 +6,7 @@ use Prim.Native.Nat.{ℕ, ◌<◌, ◌≤◌}
 use native.Mathlib.Omega.{arith}
 use lib.Dec.{eqb}
 use Rattle.events.specs.declared.Link.{Link}
-use Rattle.events.specs.declared.Link.TheVariants.{Absent, To}
+use Rattle.events.specs.declared.Link.TheVariants.{To}
 use Rattle.laws.specs.Says.{Says}
 use Rattle.laws.specs.Steps.{more}
 use Rattle.laws.proofs.Says.{says_yes, says_no, says_eq, says_iff, said, denied}
@@ -17,7 +17,7 @@ use Rattle.model.specs.WellFormed.{WellFormed}
 use Rattle.model.proofs.Laws.{hb_iff_last}
 use Rattle.model.proofs.Within.{hb_rises}
 use Rattle.links.specs.Links.{Leads}
-use Rattle.model.proofs.Fields.{absent_to, one_end}
+use Rattle.model.proofs.Fields.{one_end}
 use Rattle.asking.specs.LastStep.{LastBy, ByPo, BySw}
 
 -- hb is a last step of po or one of sw
@@ -48,9 +48,6 @@ by_parent {t} {a} u up =
 
 -- what steps to b by S is what the link leads to
 module _ {t : Table} {S : ℕ → ℕ → Type 0} {a b : ℕ} {link : Link} (leads : Leads link (λ s. S s b)) where
-  pub last_none : link ≡ Absent → Says false (LastBy t S a b)
-  last_none e = says_no (λ l. absent_to e (leads.only l.from l.step))
-
   module _ {s : ℕ} (e : link ≡ To s) where
     rest_of : LastBy t S a b → (a ≡ s) ⊎ Hb t a s
     rest_of l = subst (λ (x : ℕ). (a ≡ x) ⊎ Hb t a x) (one_end e (leads.only l.from l.step)) l.rest

@@ -1,5 +1,4 @@
 -- `before::before` meets its contract: the last step is one of the two.
-use borrow.Author.Rules.{rules}
 use Rattle.laws.proofs.Says.{denied}
 use Rattle.asking.proofs.LastSteps.{hb_by_po, hb_by_sw}
 use Rattle.asking.proofs.before.before.Goals as goal

@@ -1,5 +1,4 @@
 -- `before::po_source` meets its contract: the link to the parent leads to it.
-use borrow.Author.Rules.{rules}
 use Rattle.table.specs.Events.{events_of}
 use Rattle.links.proofs.Linking.{parent_leads}
 use Rattle.asking.proofs.before.po_source.Goals as goal

@@ -1,6 +1,5 @@
 -- `before::sw_source` meets its contract: a read has one source, and the two orders decide.
 use native.Mathlib.Omega.{arith}
-use borrow.Author.Rules.{rules}
 use Rattle.laws.proofs.Says.{said, denied, says_and, says_is}
 use Rattle.links.proofs.Sources.{source_falls, sw_none, sw_from, sw_not_from}
 use Rattle.asking.proofs.before.sw_source.Goals as goal

@@ -2,7 +2,6 @@
 use mathlib.Core.Path.{◌≡◌, sym, ◌∙◌}
 use Prim.Native.Nat.{ℕ}
 use lib.Dec.{eqb}
-use borrow.Author.Rules.{rules}
 use Rattle.laws.specs.Says.{Says}
 use Rattle.laws.proofs.Says.{says_eq, says_not, says_and, says_iff}
 use Rattle.asking.proofs.conflict.apart.Goals as goal

@@ -1,5 +1,4 @@
 -- `race::can_race` meets its contract, part by part.
-use borrow.Author.Rules.{rules}
 use Rattle.laws.proofs.Says.{says_eq, says_not, says_and, says_or, says_iff, says_is}
 use Rattle.asking.proofs.race.can_race.Goals as goal
 

@@ -1,7 +1,6 @@
 -- `race::races` meets its contract: hb and conflict are asked only where the rest fits.
 use mathlib.Core.Bool.{Bool}
 use Prim.Native.Nat.{ℕ}
-use borrow.Author.Rules.{rules}
 use Rattle.laws.specs.Says.{Says}
 use Rattle.laws.proofs.Says.{says_iff}
 use Rattle.model.specs.Table.{Table}

@@ -1,5 +1,4 @@
 -- `race::unordered` meets its contract, part by part.
-use borrow.Author.Rules.{rules}
 use Rattle.laws.proofs.Says.{says_not, says_and, says_iff}
 use Rattle.asking.proofs.race.unordered.Goals as goal
 

@@ -1,5 +1,4 @@
 -- `tree::elsewhere` meets its contract: it is told part by part.
-use borrow.Author.Rules.{rules}
 use Rattle.laws.proofs.Says.{says_not, says_and, says_iff, says_is}
 use Rattle.asking.proofs.tree.elsewhere.Goals as goal
 
