@@ -1,4 +1,4 @@
 -- What is proved of the figures over a batch.
-pub mod Turn
 pub mod Unique
 pub mod Joined
+pub mod Turn

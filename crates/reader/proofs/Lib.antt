@@ -1,3 +1,2 @@
 -- What is proved of readers.
-pub mod Calls
 pub mod Unique

@@ -8,8 +8,8 @@ use native.Mathlib.Omega.{arith}
 use native.Mathlib.Numerals.{add-one}
 use native.Mathlib.Decide.{dec_lt}
 use lib.Dec.{ltb}
-use lib.ListN.{length, take, drop, set, get_or, length-append, length-take, length-drop, take-append-drop, drop_of_length-le}
-use lib.Seq.{set_split, take-suc, take_at, drop-append-add, drop-drop, take-length, length-take-le}
+use lib.ListN.{length, take, drop, set, get_or, length-append, length-drop, take-append-drop}
+use lib.Seq.{set_split, take-suc, take_at, drop-append-add, drop-drop, length-take-le}
 use borrow.Author.Tests.{lt-ltb, le-ltb}
 use Rattle.text.specs.Text.{digits, decimal, none_if, each, Written}
 
@@ -30,21 +30,10 @@ written_text {before} {at} {after = after} {r = r} e w = subst (λ (x : List ℕ
 -- a piece that was copied into the part from `at` on
 pub written_part :
     (before piece part : List ℕ) (at : ℕ) → at + length piece ≤ length before
-    → part ≡ take (length piece) piece ++ drop (length piece) (take (at + length piece - at) (drop at before))
-    → Written before at piece (take at before ++ (part ++ drop (at + length piece - at) (drop at before))) (at + length piece)
-written_part before piece part at h e = record {
-  holds = ap₂ (λ (x : List ℕ) (k : ℕ). take at before ++ (x ++ drop k (drop at before))) (e ∙ whole) size ∙ rw drop-drop;
-  next = refl;
-}
-  where
-    size : at + length piece - at ≡ length piece
-    size = omega arith
-
-    rest : drop (length piece) (take (at + length piece - at) (drop at before)) ≡ []
-    rest = drop_of_length-le (take (at + length piece - at) (drop at before)) {i = length piece} (simp length-take (omega arith))
-
-    whole : take (length piece) piece ++ drop (length piece) (take (at + length piece - at) (drop at before)) ≡ piece
-    whole = ap₂ ◌++◌ (take-length piece) rest ∙ append-nil piece
+    → part ≡ piece → Written before at piece (take at before ++ (part ++ drop (at + length piece - at) (drop at before))) (at + length piece)
+written_part before piece part at h e =
+    let size : at + length piece - at ≡ length piece = omega arith in
+    record { holds = ap₂ (λ (x : List ℕ) (k : ℕ). take at before ++ (x ++ drop k (drop at before))) e size ∙ rw drop-drop; next = refl }
 
 pub written_nothing : (before : List ℕ) (at : ℕ) → Written before at [] before at
 written_nothing before at = record { holds = sym (take-append-drop at before) ∙ rw add-zero; next = rw add-zero }

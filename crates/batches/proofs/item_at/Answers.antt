@@ -1,6 +1,5 @@
 -- `item_at` meets its contract: the tests of the code are those of `stands_at`.
 use borrow.Author.Tests.{le-leb, lt-leb, lt-ltb, le-ltb}
-use borrow.Author.Rules.{rules}
 use Rattle.batches.specs.Batch.{stands_at}
 use Rattle.batches.proofs.item_at.Goals as goal
 

@@ -1,5 +1,4 @@
 -- `place_after` meets its contract, by the cases of what stands at the place.
-use borrow.Author.Rules.{rules}
 use Rattle.batches.proofs.Unique.{table_stands, end_stands}
 use Rattle.batches.proofs.place_after.Goals as goal
 

@@ -1,6 +1,5 @@
 -- `of_judged` meets its contract: each arm gives the figures of what was judged.
 use mathlib.Core.Path.{ap, sym, ◌∙◌}
-use borrow.Author.Rules.{rules}
 use Rattle.refusals.specs.declared.Told.{Told}
 use Rattle.counting.specs.Parts.{of_refused, of_judged}
 use Rattle.counting.proofs.of_judged.Goals as goal

@@ -1,5 +1,4 @@
 -- `of_refused` meets its contract: one for the number, and nothing else.
-use borrow.Author.Rules.{rules}
 use Rattle.counting.proofs.of_refused.Goals as goal
 
 pub returns : goal.returns

@@ -1,5 +1,4 @@
 -- `of_report` meets its contract: one for each finding that was found, one for the verdict, and the records.
-use borrow.Author.Rules.{rules}
 use Rattle.counting.proofs.of_report.Goals as goal
 
 pub returns : goal.returns

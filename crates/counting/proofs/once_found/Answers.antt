@@ -1,14 +1,12 @@
 -- `once_found` meets its contract: in the loop the findings at the places below `place` have been asked.
 use mathlib.Core.Path.{◌≡◌, refl, ap, ◌∙◌}
-use Prim.Native.Nat.{◌-◌, ◌≤◌}
 use native.Mathlib.Omega.{arith}
 use lib.ListN.{length}
-use borrow.Author.Rules.{rules}
 use Rattle.findings.specs.declared.Finding.{Finding}
 use Rattle.findings.specs.declared.Finding.TheVariants.{R}
 use Rattle.findings.specs.Family.{all_in_order, found_of, there}
 use Rattle.tally.specs.Figures.{one_if}
-use Rattle.counting.proofs.Filling.{filled_to, filled_turn}
+use Rattle.counting.proofs.Filling.{filled_turn}
 use Rattle.counting.proofs.once_found.Goals as goal
 
 pub loop-place-preserved : goal.loop-place-preserved

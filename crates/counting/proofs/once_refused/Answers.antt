@@ -1,13 +1,12 @@
 -- `once_refused` meets its contract: in the loop the numbers below `place + 1` have been asked.
 use mathlib.Core.Path.{◌≡◌, refl, sym, ap, ◌∙◌}
-use Prim.Native.Nat.{ℕ, ◌-◌, ◌≤◌}
+use Prim.Native.Nat.{ℕ}
 use native.Mathlib.Omega.{arith}
 use lib.Dec.{eqb}
 use lib.ListN.{length}
-use borrow.Author.Rules.{rules}
 use Rattle.tally.specs.Figures.{one_if, numbers}
 use Rattle.tally.proofs.Laws.{number_at}
-use Rattle.counting.proofs.Filling.{filled_to, filled_turn}
+use Rattle.counting.proofs.Filling.{filled_turn}
 use Rattle.counting.proofs.once_refused.Goals as goal
 
 pub loop-place-preserved : goal.loop-place-preserved

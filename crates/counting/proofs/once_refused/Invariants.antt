@@ -1,13 +1,10 @@
 -- `once_refused` meets its contract: in the loop the numbers below `place + 1` have been asked.
-use mathlib.Core.Path.{◌≡◌, refl, sym, ap, ◌∙◌}
-use Prim.Native.Nat.{ℕ, ◌-◌, ◌≤◌}
-use native.Mathlib.Omega.{arith}
+use mathlib.Core.Path.{◌≡◌}
+use Prim.Native.Nat.{◌-◌, ◌≤◌}
 use lib.Dec.{eqb}
 use lib.ListN.{length}
-use borrow.Author.Rules.{rules}
 use Rattle.tally.specs.Figures.{one_if, numbers}
-use Rattle.tally.proofs.Laws.{number_at}
-use Rattle.counting.proofs.Filling.{filled_to, filled_turn}
+use Rattle.counting.proofs.Filling.{filled_to}
 use Rattle.counting.proofs.once_refused.Given as goal
 
 abbrev pub invariant-loop-place : goal.invariant-loop-place

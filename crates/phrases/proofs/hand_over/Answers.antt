@@ -1,6 +1,5 @@
 -- `hand_over` meets its contract: the text is copied if it has room.
 use native.Mathlib.Omega.{arith}
-use borrow.Author.Rules.{rules}
 use Rattle.phrases.proofs.Handing.{too_short, handed}
 use Rattle.phrases.proofs.hand_over.Goals as goal
 

@@ -1,7 +1,6 @@
 -- `number_line` meets its contract: the name, the number, the line end.
 use mathlib.Core.List.{[], ◌∷◌}
 use native.Mathlib.Omega.{arith}
-use borrow.Author.Rules.{rules}
 use Rattle.text.specs.Text.{spaced}
 use Rattle.phrases.proofs.Pieces.{first_room, second_room, third_room, all_three}
 use Rattle.phrases.proofs.number_line.Goals as goal

@@ -1,6 +1,5 @@
 -- `put_named` meets its contract: ` byte` and its number, or nothing.
 use mathlib.Core.Path.{sym, ap}
-use borrow.Author.Rules.{rules}
 use Rattle.text.specs.Text.{spaced}
 use Rattle.text.proofs.Laws.{written_nothing, written_text, written_then}
 use Rattle.phrases.specs.Phrases.{byte_word, byte_text}

@@ -1,5 +1,4 @@
 -- `put_place` meets its contract: the number, `at`, where.
-use borrow.Author.Rules.{rules}
 use Rattle.text.specs.Text.{spaced}
 use Rattle.phrases.specs.Phrases.{at_word, where_text}
 use Rattle.phrases.proofs.Pieces.{first_room, second_room, third_room, all_three}

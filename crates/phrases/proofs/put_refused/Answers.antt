@@ -1,6 +1,5 @@
 -- `put_refused` meets its contract: `refused`, what is told, the line end.
 use mathlib.Core.List.{[], ◌∷◌}
-use borrow.Author.Rules.{rules}
 use Rattle.phrases.specs.Phrases.{refused_word, place_text, refused_text}
 use Rattle.phrases.proofs.Pieces.{first_room, second_room, third_room, all_three}
 use Rattle.phrases.proofs.put_refused.Goals as goal

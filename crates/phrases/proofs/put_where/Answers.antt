@@ -1,5 +1,4 @@
 -- `put_where` meets its contract: the place, and the byte after it.
-use borrow.Author.Rules.{rules}
 use Rattle.text.specs.Text.{spaced}
 use Rattle.text.proofs.Laws.{written_then}
 use Rattle.phrases.specs.Phrases.{byte_text}

@@ -1,11 +1,11 @@
 -- `add_each` meets its contract: in the loop the first i are added.
-use mathlib.Core.Path.{◌≡◌, refl, ap, ap₂, ◌∙◌}
+use mathlib.Core.Path.{refl, ap, ap₂, ◌∙◌}
 use mathlib.Core.List.{List}
-use Prim.Native.Nat.{ℕ, ◌+◌, ◌-◌, ◌≤◌}
+use Prim.Native.Nat.{ℕ, ◌+◌}
 use native.Mathlib.Numerals.{add-one}
 use native.Mathlib.Omega.{arith}
-use lib.ListN.{length, get_or, set, length-set}
-use Rattle.tally.proofs.Adding.{add_to, added_here, added_next, added_all}
+use lib.ListN.{get_or, set, length-set}
+use Rattle.tally.proofs.Adding.{added_here, added_next, added_all}
 use Rattle.tally.proofs.add_each.Goals as goal
 
 pub loop-i-init : goal.loop-i-init

@@ -1,11 +1,8 @@
 -- `add_each` meets its contract: in the loop the first i are added.
-use mathlib.Core.Path.{◌≡◌, refl, ap, ap₂, ◌∙◌}
-use mathlib.Core.List.{List}
-use Prim.Native.Nat.{ℕ, ◌+◌, ◌-◌, ◌≤◌}
-use native.Mathlib.Numerals.{add-one}
-use native.Mathlib.Omega.{arith}
-use lib.ListN.{length, get_or, set, length-set}
-use Rattle.tally.proofs.Adding.{add_to, added_here, added_next, added_all}
+use mathlib.Core.Path.{◌≡◌}
+use Prim.Native.Nat.{◌-◌, ◌≤◌}
+use lib.ListN.{length}
+use Rattle.tally.proofs.Adding.{add_to}
 use Rattle.tally.proofs.add_each.Given as goal
 
 abbrev pub invariant-loop-i : goal.invariant-loop-i

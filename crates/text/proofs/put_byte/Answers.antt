@@ -1,6 +1,5 @@
 -- `put_byte` meets its contract: one byte is set.
 use native.Mathlib.Omega.{arith}
-use borrow.Author.Rules.{rules}
 use Rattle.text.proofs.Laws.{written_byte}
 use Rattle.text.proofs.put_byte.Goals as goal
 

@@ -1,6 +1,5 @@
 -- `put_spaced` meets its contract: the space, and then the number.
 use native.Mathlib.Omega.{arith}
-use borrow.Author.Rules.{rules}
 use Rattle.text.proofs.Laws.{written_then}
 use Rattle.text.proofs.put_spaced.Goals as goal
 

@@ -1,6 +1,5 @@
 -- `Figures::plus` meets its contract: each number is the sum of two, and the largest the larger.
 use native.Mathlib.Omega.{arith}
-use borrow.Author.Rules.{rules}
 use Rattle.tally.specs.Sums.{sums}
 use Rattle.tally.proofs.Figures.plus.Goals as goal
 
