@@ -3,6 +3,8 @@
 use crate::native::{Native, Object};
 use crate::plain;
 use crate::tuned::Tuned;
+use std::io::Write;
+use std::process::{Command, Stdio};
 
 /// More bytes than any answer has and any judge asks for.
 const ROOM: usize = 8192;
@@ -35,7 +37,7 @@ impl Judge {
     }
 }
 
-/// Every judge: those in objects, each named by a word as `proved=judge.so`, then plain, tuned, and last the second judge.
+/// Every judge: those in objects and programs, each named by a word as `proved=judge.so`, then plain, tuned, and last the second judge.
 pub fn all(objects: &[String]) -> Result<Vec<Judge>, String> {
     let mut list: Vec<Judge> = objects.iter().map(|word| in_object(word)).collect::<Result<_, _>>()?;
     list.extend([plain(), tuned(), nested()]);
@@ -54,8 +56,26 @@ pub fn named(word: &str) -> Result<Judge, String> {
 
 fn in_object(word: &str) -> Result<Judge, String> {
     let (name, path) = word.split_once('=').ok_or(format!("{word}: not NAME=OBJECT"))?;
+    if !path.ends_with(".so") {
+        return Ok(in_program(name, path));
+    }
     let native = Native::of(&Object::load(path)?)?;
     Ok(Judge::new(name, move |table, out| native.write_answer(table, out)))
+}
+
+/// A judge that is a program: a table on its standard input, started once for each.
+fn in_program(name: &str, path: &str) -> Judge {
+    let path = path.to_string();
+    Judge::new(name, move |table, out| copy(&answer_of(&path, table), out))
+}
+
+fn answer_of(path: &str, table: &[u8]) -> String {
+    let started = Command::new(path).stdin(Stdio::piped()).stdout(Stdio::piped()).spawn();
+    let mut program = started.unwrap_or_else(|why| panic!("{path}: {why}"));
+    // A program that has read enough may have ended: what it answers counts.
+    let _ = program.stdin.take().expect("its input is piped").write_all(table);
+    let answered = program.wait_with_output().unwrap_or_else(|why| panic!("{path}: {why}"));
+    String::from_utf8_lossy(&answered.stdout).into_owned()
 }
 
 fn plain() -> Judge {

@@ -13,23 +13,6 @@ extern "C" {
 /// All that the object needs is looked up at once.
 const RTLD_NOW: c_int = 2;
 
-/// A slice as Rattle's compiled functions pass it to each other.
-#[repr(C)]
-pub struct Lent {
-    start: *const u8,
-    len: usize,
-}
-
-impl Lent {
-    pub fn to_read(slice: &[u8]) -> Lent {
-        Lent { start: slice.as_ptr(), len: slice.len() }
-    }
-
-    pub fn to_write(slice: &mut [u8]) -> Lent {
-        Lent { start: slice.as_mut_ptr(), len: slice.len() }
-    }
-}
-
 /// An object that stays loaded.
 pub struct Object {
     path: String,
@@ -49,7 +32,7 @@ impl Object {
         Ok(Object { path: path.to_string(), handle })
     }
 
-    /// The address of a function by its name in Rattle.
+    /// The address of a function by its name.
     pub fn function(&self, name: &str) -> Result<*mut c_void, String> {
         let symbol = CString::new(name).map_err(|why| format!("{name}: {why}"))?;
         // SAFETY: the string ends with 0, and the object is loaded.
@@ -61,11 +44,8 @@ impl Object {
     }
 }
 
-/// Room for what the judge returns, which nobody looks into: the text stands in the output.
-#[repr(C, align(8))]
-struct Wrote([u8; 64]);
-
-type WriteAnswer = unsafe extern "C" fn(result: *mut Wrote, table: *const Lent, out: *const Lent);
+/// As the crate `judge_c` exports it: a slice is passed as its start and its length, and the answer's length is returned.
+type WriteAnswer = unsafe extern "C" fn(table: *const u8, table_len: usize, out: *mut u8, out_len: usize) -> usize;
 
 pub struct Native {
     write_answer: WriteAnswer,
@@ -73,7 +53,7 @@ pub struct Native {
 
 impl Native {
     pub fn of(object: &Object) -> Result<Native, String> {
-        let address = object.function("lines::write_answer")?;
+        let address = object.function("tweedstile_write_answer")?;
         // SAFETY: the function of this name has this type.
         Ok(Native { write_answer: unsafe { transmute::<*mut c_void, WriteAnswer>(address) } })
     }
@@ -81,9 +61,7 @@ impl Native {
     /// The answer's text at the front of `out`, which has to be longer than 4,096 bytes.
     pub fn write_answer(&self, table: &[u8], out: &mut [u8]) {
         assert!(out.len() > 4096, "a text may ask for that much room");
-        let mut result = Wrote([0; 64]);
-        let (table, out) = (Lent::to_read(table), Lent::to_write(out));
         // SAFETY: each slice is lent by its own start and length until the call ends, and `out` alone is written.
-        unsafe { (self.write_answer)(&mut result, &table, &out) };
+        unsafe { (self.write_answer)(table.as_ptr(), table.len(), out.as_mut_ptr(), out.len()) };
     }
 }

@@ -1,4 +1,6 @@
 // The answers of a batch: the report of one table at a time, and the texts of all in one call.
+#![tactic(auto)]
+
 ghost use Rattle.std.specs.Prelude.{◌+◌, ◌*◌, ◌≤◌, length};
 ghost use Rattle.answers.specs.Answer.{StepAnswer, RunAnswer};
 ghost use Rattle.answers.specs.Room.{enough, TextPut, TextsAt};

@@ -1,4 +1,6 @@
 // What the searches and a cut stand on, from a table's columns: hb, conflict, the writes of each place, and the races with earlier writes.
+#![tactic(auto)]
+
 ghost use Rattle.model.specs.Table.{Table};
 ghost use Rattle.model.specs.Relations.{Conflict};
 ghost use Rattle.rows.specs.Rows.{Made};

@@ -1,4 +1,6 @@
 // What a batch holds: at a place a table, or the batch's end.
+#![tactic(auto)]
+
 ghost use Rattle.std.specs.Prelude.{◌≡◌, ◌+◌, ◌≤◌, length};
 ghost use Rattle.batches.specs.Batch.{most, mark_is, headed, refused, end, standing, stands_at};
 ghost use Rattle.batches.specs.Reading.{is_table, bytes_of, place_after};

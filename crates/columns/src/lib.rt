@@ -1,4 +1,6 @@
 // What the relations ask of the records of a sound table, read once into columns: a byte for each record. Nothing above reads the table's bytes.
+#![tactic(auto)]
+
 ghost use Rattle.std.specs.Prelude.{◌≡◌, ◌<◌};
 ghost use Rattle.record.specs.Form.{order_byte, part};
 ghost use Rattle.table.specs.Events.{events_of};

@@ -1,4 +1,6 @@
 // The figures of one table, and with it those of the tables before it.
+#![tactic(auto)]
+
 ghost use Rattle.std.specs.Prelude.{◌≡◌, map, eqb};
 ghost use Rattle.findings.specs.Family.{all_in_order, found_of, there};
 ghost use Rattle.findings.specs.declared.Verdict.TheVariants.{Undefined, Inconsistent, Consistent};

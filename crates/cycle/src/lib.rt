@@ -1,4 +1,6 @@
 // The least cycle of a relation that is held in rows of words: looked for only among what can be on a cycle, and by set bits.
+#![tactic(auto)]
+
 mod greedy;
 mod layers;
 mod trim;

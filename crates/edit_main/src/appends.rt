@@ -5,33 +5,59 @@ use edit::appending::{Appended, append};
 use events::Record;
 use programs::say;
 use programs::script::{WIDTH, record_at};
+use std::io;
 
-fn say_answer(appended: Appended) -> bool {
+fn say_answer(rt: &impl Print, appended: Appended) -> io::Result<()> {
     match appended {
-        Appended::Count(n) => say::number(b" count ", n),
-        Appended::Refused(r) => say::text(b" ") & say::refusal(r),
+        Appended::Count(n) => say::number(rt, b" count ", n),
+        Appended::Refused(r) => {
+            say::text(rt, b" ")?;
+            say::refusal(rt, r)
+        }
     }
 }
 
-fn say_append(what: &[u8], t: &mut [u8], used: usize, new: Record) -> bool {
-    say::text(what) & say_answer(append(t, used, new))
+fn say_append(
+    rt: &impl Print,
+    what: &[u8],
+    t: &mut [u8],
+    used: usize,
+    new: Record,
+) -> io::Result<()> {
+    say::text(rt, what)?;
+    say_answer(rt, append(t, used, new))
 }
 
 // On a line.
-pub fn say_line(what: &[u8], t: &mut [u8], used: usize, new: Record) -> bool {
-    say_append(what, t, used, new) & say::text(b"\n")
+pub fn say_line(
+    rt: &impl Print,
+    what: &[u8],
+    t: &mut [u8],
+    used: usize,
+    new: Record,
+) -> io::Result<()> {
+    say_append(rt, what, t, used, new)?;
+    say::text(rt, b"\n")
 }
 
 // An append to the first `room` bytes.
-pub fn say_within(what: &[u8], t: &mut [u8], room: usize, used: usize, new: Record) -> bool
+pub fn say_within(
+    rt: &impl Print,
+    what: &[u8],
+    t: &mut [u8],
+    room: usize,
+    used: usize,
+    new: Record,
+) -> io::Result<()>
     requires { room ≤ length t.old }
 {
-    say_append(what, &mut t[0..room], used, new)
+    say_append(rt, what, &mut t[0..room], used, new)
 }
 
 // Appends the records of a script, one after another.
-pub fn build(what: &[u8], t: &mut [u8], script: &[u8]) {
+pub fn build(rt: &impl Print, what: &[u8], t: &mut [u8], script: &[u8]) -> io::Result<()> {
     for n in 0..script.len() / WIDTH {
-        say_line(what, t, n, record_at(script, n));
+        say_line(rt, what, t, n, record_at(script, n))?;
     }
+    Ok(())
 }

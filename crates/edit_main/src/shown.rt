@@ -2,16 +2,20 @@
 use programs::say;
 use programs::say::Form;
 use record::places::SIZE;
+use std::io;
 
-pub fn say_record(part: &[u8]) -> bool {
-    say::text(b" ") & say::bytes(Form::Hex, b" ", part) & say::text(b"\n")
+pub fn say_record(rt: &impl Print, part: &[u8]) -> io::Result<()> {
+    say::text(rt, b" ")?;
+    say::bytes(rt, Form::Hex, b" ", part)?;
+    say::text(rt, b"\n")
 }
 
 // The first records, and the sixteen bytes after them, if there are any.
-pub fn say_records(bytes: &[u8], count: usize) {
+pub fn say_records(rt: &impl Print, bytes: &[u8], count: usize) -> io::Result<()> {
     for n in 0..bytes.len() / SIZE {
         if n <= count {
-            say_record(&bytes[SIZE * n..SIZE * n + SIZE]);
+            say_record(rt, &bytes[SIZE * n..SIZE * n + SIZE])?;
         }
     }
+    Ok(())
 }

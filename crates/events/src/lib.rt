@@ -1,4 +1,6 @@
 // The events of a table as values: orders, values, events, links and records.
+#![tactic(auto)]
+
 ghost use Rattle.std.specs.Prelude.{◌≡◌};
 ghost use Rattle.events.specs.Words.{acquires, releases, code_of};
 

@@ -1,4 +1,6 @@
 // What the relations ask of one record of a sound table, read in place: no record is decoded again.
+#![tactic(auto)]
+
 ghost use Rattle.std.specs.Prelude.{◌≡◌, ◌<◌};
 ghost use Rattle.events.specs.Words.{is_read, is_write, is_update, is_na, is_sc, order_of, acquires, releases, at_one_location};
 ghost use Rattle.record.specs.Form.{record_size, byte_at, part};

@@ -1,4 +1,6 @@
 // A record fetched from a table: its own sixteen bytes, and whether the fetch is refused (by 1 or by 13).
+#![tactic(auto)]
+
 ghost use Rattle.std.specs.Prelude.{◌≡◌};
 ghost use Rattle.fetch.specs.Fetched.{fetched, FetchAnswer};
 

@@ -1,36 +1,35 @@
 // Counts over the batch on standard input, and writes Monday's figures to standard output.
+#![tactic(auto)]
+
 ghost use Rattle.std.specs.Prelude.{◌≤◌, length};
 
+use anyhow::{Context, Result, bail};
 use batches::MOST;
 use phrases::Wrote;
 use sheet::{SHEET, write_figures};
+use std::io::Read;
 
 // One byte more than a batch may have: a longer input is refused by what is read of it.
 const READ: usize = MOST + 1;
 
 // The first bytes.
-fn write_out(text: &[u8], len: usize)
+fn write_out(rt: &impl Print, text: &[u8], len: usize) -> Result<()>
     requires { len ≤ length text.now }
 {
-    if !io::write_all(libc::STDOUT_FILENO, &text[0..len]) {
-        os::fail(b"output");
-    }
+    rt.write_all(&text[0..len]).context("output")
 }
 
-fn answer(batch: &[u8]) {
+fn answer(rt: &impl Print, batch: &[u8]) -> Result<()> {
     let mut out = [0u8; SHEET];
     match write_figures(batch, &mut out) {
-        Wrote::Length(len) => write_out(&out, len),
-        Wrote::Refused(_) => os::fail(b"figures"),
+        Wrote::Length(len) => write_out(rt, &out, len),
+        Wrote::Refused(_) => bail!("figures"),
     }
 }
 
-fn main() {
-    let mut batch = [0u8; READ];
-    let len = io::read_full(libc::STDIN_FILENO, &mut batch);
-    if os::errno() != 0 {
-        os::fail(b"input");
-        return;
-    }
-    answer(&batch[..len]);
+fn main(rt: HostRuntime) -> Result<()> {
+    let mut batch = Vec::new(rt.alloc());
+    let mut input = rt.stdin().take(READ as u64);
+    input.read_to_end(&mut batch).context("input")?;
+    answer(&rt, &batch)
 }

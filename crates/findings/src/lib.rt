@@ -1,4 +1,6 @@
 // The findings, what a search finds of one, and the verdict, as values.
+#![tactic(auto)]
+
 ghost use Rattle.std.specs.Prelude.{◌≡◌, ◌<◌, ◌≤◌, [], ◌∷◌, length, take, drop};
 ghost use Rattle.findings.specs.Family.{all_in_order, finding_at, in_second, name_of, there, found_of};
 

@@ -1,4 +1,6 @@
 // The judge: a table's seven findings, each with its least witness, and the verdict.
+#![tactic(auto)]
+
 mod searching;
 
 ghost use Rattle.std.specs.Prelude.{T, length};

@@ -7,6 +7,7 @@ use judge::{Judged, Report};
 use limits::LIMIT;
 use programs::say;
 use programs::say::Form;
+use std::io;
 
 // The first bytes, if there are so many.
 fn front(bytes: &[u8], len: usize) -> &[u8] {
@@ -16,85 +17,112 @@ fn front(bytes: &[u8], len: usize) -> &[u8] {
     bytes
 }
 
-fn say_name(finding: Finding) -> bool {
+fn say_name(rt: &impl Print, finding: Finding) -> io::Result<()> {
     let name = finding.name();
     let bytes = name.bytes;
-    say::text(b" ") & say::text(front(&bytes, name.length))
+    say::text(rt, b" ")?;
+    say::text(rt, front(&bytes, name.length))
 }
 
-fn say_witness(found: Found, records: &[u8]) -> bool {
+fn say_witness(rt: &impl Print, found: Found, records: &[u8]) -> io::Result<()> {
     match found {
-        Found::Nothing => true,
-        Found::Record(n) => say::number(b" ", n),
-        Found::Pair(p, q) => say::number(b" ", p) & say::number(b" ", q),
-        Found::Cycle(len) => say::bytes(Form::Decimal, b" ", front(records, len)),
+        Found::Nothing => Ok(()),
+        Found::Record(n) => say::number(rt, b" ", n),
+        Found::Pair(p, q) => {
+            say::number(rt, b" ", p)?;
+            say::number(rt, b" ", q)
+        }
+        Found::Cycle(len) => say::bytes(rt, Form::Decimal, b" ", front(records, len)),
     }
 }
 
 // A finding's name and its records, where there is one; those of a cycle stand in `records`.
-fn say_found(finding: Finding, found: Found, records: &[u8]) -> bool {
+fn say_found(rt: &impl Print, finding: Finding, found: Found, records: &[u8]) -> io::Result<()> {
     if found.there() {
-        return say_name(finding) & say_witness(found, records);
+        say_name(rt, finding)?;
+        return say_witness(rt, found, records);
     }
-    true
+    Ok(())
 }
 
-fn say_finding(finding: Finding, x: Findings, first: &[u8], second: &[u8]) -> bool {
+fn say_finding(
+    rt: &impl Print,
+    finding: Finding,
+    x: Findings,
+    first: &[u8],
+    second: &[u8],
+) -> io::Result<()> {
     let found = x.of(finding);
     if finding.in_second() {
-        return say_found(finding, found, second);
+        return say_found(rt, finding, found, second);
     }
-    say_found(finding, found, first)
+    say_found(rt, finding, found, first)
 }
 
-fn say_findings(x: Findings, first: &[u8], second: &[u8]) {
+fn say_findings(rt: &impl Print, x: Findings, first: &[u8], second: &[u8]) -> io::Result<()> {
     for place in 0..Finding::COUNT {
-        say_finding(Finding::at(place), x, first, second);
+        say_finding(rt, Finding::at(place), x, first, second)?;
     }
+    Ok(())
 }
 
-fn say_verdict(verdict: Verdict) -> bool {
+fn say_verdict(rt: &impl Print, verdict: Verdict) -> io::Result<()> {
     match verdict {
-        Verdict::Undefined => say::text(b" undefined"),
-        Verdict::Inconsistent => say::text(b" inconsistent"),
-        Verdict::Consistent => say::text(b" consistent"),
+        Verdict::Undefined => say::text(rt, b" undefined"),
+        Verdict::Inconsistent => say::text(rt, b" inconsistent"),
+        Verdict::Consistent => say::text(rt, b" consistent"),
     }
 }
 
-fn say_report(report: Report, first: &[u8], second: &[u8]) -> bool {
+fn say_report(rt: &impl Print, report: Report, first: &[u8], second: &[u8]) -> io::Result<()> {
     let x = report.findings;
     let verdict = report.verdict;
-    say::number(b" events ", report.events);
-    say_findings(x, first, second);
-    say_verdict(verdict)
+    say::number(rt, b" events ", report.events)?;
+    say_findings(rt, x, first, second)?;
+    say_verdict(rt, verdict)
 }
 
-fn say_judged(table: &[u8], first: &mut [u8], second: &mut [u8]) -> bool {
+fn say_judged(
+    rt: &impl Print,
+    table: &[u8],
+    first: &mut [u8],
+    second: &mut [u8],
+) -> io::Result<()> {
     match judge::judge(table, first, second) {
-        Judged::Refused(r) => say::text(b" ") & say::refusal(r),
-        Judged::Reported(report) => say_report(report, first, second),
+        Judged::Refused(r) => {
+            say::text(rt, b" ")?;
+            say::refusal(rt, r)
+        }
+        Judged::Reported(report) => say_report(rt, report, first, second),
     }
 }
 
 // Judges with the fronts of two buffers.
-fn say_fronts(table: &[u8], first: &mut [u8], a: usize, second: &mut [u8], b: usize) -> bool
+fn say_fronts(
+    rt: &impl Print,
+    table: &[u8],
+    first: &mut [u8],
+    a: usize,
+    second: &mut [u8],
+    b: usize,
+) -> io::Result<()>
     requires { (a ≤ length first.old) × (b ≤ length second.old) }
 {
-    say_judged(table, &mut first[0..a], &mut second[0..b])
+    say_judged(rt, table, &mut first[0..a], &mut second[0..b])
 }
 
 // Judges a table with buffers of `a` and `b` bytes.
-pub fn say_lent(name: &[u8], table: &[u8], a: usize, b: usize) -> bool
+pub fn say_lent(rt: &impl Print, name: &[u8], table: &[u8], a: usize, b: usize) -> io::Result<()>
     requires { (a ≤ limit) × (b ≤ limit) }
 {
     let mut first = [200u8; LIMIT];
     let mut second = [200u8; LIMIT];
-    say::text(name)
-        & say::text(b":")
-        & say_fronts(table, &mut first, a, &mut second, b)
-        & say::text(b"\n")
+    say::text(rt, name)?;
+    say::text(rt, b":")?;
+    say_fronts(rt, table, &mut first, a, &mut second, b)?;
+    say::text(rt, b"\n")
 }
 
-pub fn say_judging(name: &[u8], table: &[u8]) -> bool {
-    say_lent(name, table, LIMIT, LIMIT)
+pub fn say_judging(rt: &impl Print, name: &[u8], table: &[u8]) -> io::Result<()> {
+    say_lent(rt, name, table, LIMIT, LIMIT)
 }

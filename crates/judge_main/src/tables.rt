@@ -9,28 +9,36 @@ use programs::large::Large;
 use programs::script::WIDTH;
 use programs::{examples, large, script};
 use record::places::SIZE;
+use std::io;
 
-pub fn judge_script(name: &[u8], script: &[u8]) {
+pub fn judge_script(rt: &impl Print, name: &[u8], script: &[u8]) -> io::Result<()> {
     let count = script.len() / WIDTH;
     if count <= LIMIT {
         let mut table = [0u8; SIZE * LIMIT];
         script::write(script, &mut table);
-        say_judging(name, &table[0..SIZE * count]);
+        return say_judging(rt, name, &table[0..SIZE * count]);
     }
+    Ok(())
 }
 
 // The first `count` records of a large table.
-pub fn judge_large(name: &[u8], large: Large, count: u8)
+pub fn judge_large(rt: &impl Print, name: &[u8], large: Large, count: u8) -> io::Result<()>
     requires { count ≤ limit }
 {
     let mut table = [0u8; SIZE * LIMIT];
     large::write(large, count, &mut table);
-    say_judging(name, &table[0..SIZE * (count as usize)]);
+    say_judging(rt, name, &table[0..SIZE * (count as usize)])
 }
 
 // E2 with one byte of record n changed.
-pub fn judge_changed(name: &[u8], n: usize, place: usize, byte: u8)
+pub fn judge_changed(
+    rt: &impl Print,
+    name: &[u8],
+    n: usize,
+    place: usize,
+    byte: u8,
+) -> io::Result<()>
     requires { (n < 5) × (place < record_size) }
 {
-    say_judging(name, &examples::changed(n, place, byte));
+    say_judging(rt, name, &examples::changed(n, place, byte))
 }

@@ -1,4 +1,6 @@
 // What every judging asks, however the findings are searched for: whether the two lent buffers have room, and the verdict from what was found.
+#![tactic(auto)]
+
 ghost use Rattle.std.specs.Prelude.{◌≡◌, ◌≤◌};
 ghost use Rattle.limits.specs.Limit.{limit};
 ghost use Rattle.laws.specs.Says.{Says};

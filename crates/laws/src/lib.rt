@@ -1,1 +1,2 @@
 // Definitions and laws that every layer shares: tests that tell facts, steps, least witnesses. No code.
+#![tactic(auto)]

@@ -1,4 +1,6 @@
 // How many records a table may have: the one place that says it in code.
+#![tactic(auto)]
+
 pub const LIMIT: usize = 200;
 
 // How many a small one has at most: it is judged in less room, so that less has to be cleared.

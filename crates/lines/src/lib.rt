@@ -1,4 +1,6 @@
 // The answer of a judging as text, line by line.
+#![tactic(auto)]
+
 mod family;
 
 ghost use Rattle.std.specs.Prelude.{◌≤◌, length};

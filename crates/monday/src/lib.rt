@@ -1,4 +1,6 @@
 // Monday's figures over a batch, by a reader that hands out one table after another.
+#![tactic(auto)]
+
 ghost use Rattle.std.specs.Prelude.{◌≡◌, false};
 ghost use Rattle.batches.specs.Batch.{end, end_of, standing};
 ghost use Rattle.batches.specs.Reading.{is_table};

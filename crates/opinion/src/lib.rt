@@ -1,4 +1,6 @@
 // The third opinion as text: what the plain engine answers to a table of at most 24 records.
+#![tactic(auto)]
+
 ghost use Rattle.std.specs.Prelude.{◌≤◌, length};
 ghost use Rattle.lines.specs.Room.{longest};
 ghost use Rattle.lines.specs.Answer.{TextAt};

@@ -1,4 +1,6 @@
 // A line of a name and a number, the line of a refusal, and a text handed over.
+#![tactic(auto)]
+
 ghost use Rattle.text.specs.Text.{Written, spaced};
 ghost use Rattle.phrases.specs.Phrases.{line, byte_text, where_text, place_text, refused_text};
 ghost use Rattle.phrases.specs.Room.{Room};

@@ -1,4 +1,6 @@
 // The plain engine: what the judge says of a table, worked out by questions that the table itself answers. No relation is kept.
+#![tactic(auto)]
+
 mod reads;
 mod searching;
 mod shown;

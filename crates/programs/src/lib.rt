@@ -1,4 +1,6 @@
 // What the programs of the gate share: words on standard output, and tables and records to ask with.
+#![tactic(auto)]
+
 pub mod examples;
 pub mod large;
 pub mod records;

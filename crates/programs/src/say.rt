@@ -1,6 +1,6 @@
-// Words, numbers, refusals and bytes on standard output; each says whether it was written.
-use libc::STDOUT_FILENO;
+// Words, numbers, refusals and bytes on standard output.
 use refusals::{Byte, Refusal};
+use std::io;
 
 // How a byte is said: as two hexadecimal digits, or as a number.
 #[derive(Clone, Copy)]
@@ -9,40 +9,43 @@ pub enum Form {
     Decimal,
 }
 
-pub fn text(words: &[u8]) -> bool {
-    io::write_all(STDOUT_FILENO, words)
+pub fn text(rt: &impl Print, words: &[u8]) -> io::Result<()> {
+    rt.write_all(words)
 }
 
 // A number after words.
-pub fn number(words: &[u8], n: usize) -> bool {
-    text(words) & io::print_decimal(STDOUT_FILENO, n as u64)
+pub fn number(rt: &impl Print, words: &[u8], n: usize) -> io::Result<()> {
+    text(rt, words)?;
+    print!(rt; "{n}")
 }
 
-fn named(byte: Byte) -> bool {
+fn named(rt: &impl Print, byte: Byte) -> io::Result<()> {
     match byte {
-        Byte::Unnamed => true,
-        Byte::Named(i) => number(b" byte ", i),
+        Byte::Unnamed => Ok(()),
+        Byte::Named(i) => number(rt, b" byte ", i),
     }
 }
 
-pub fn refusal(r: Refusal) -> bool {
+pub fn refusal(rt: &impl Print, r: Refusal) -> io::Result<()> {
     let told = r.told();
     let byte = told.byte;
-    number(b"refused ", told.number) & number(b" at ", told.place) & named(byte)
+    number(rt, b"refused ", told.number)?;
+    number(rt, b" at ", told.place)?;
+    named(rt, byte)
 }
 
-fn byte(form: Form, b: u8) -> bool {
+fn byte(rt: &impl Print, form: Form, b: u8) -> io::Result<()> {
     match form {
-        Form::Hex => io::print_hex(STDOUT_FILENO, b as u64, 2),
-        Form::Decimal => io::print_decimal(STDOUT_FILENO, b as u64),
+        Form::Hex => print!(rt; "{b:02x}"),
+        Form::Decimal => print!(rt; "{b}"),
     }
 }
 
 // One byte after another, a gap before each.
-pub fn bytes(form: Form, gap: &[u8], part: &[u8]) -> bool {
-    let mut said = true;
-    for i in 0..part.len() {
-        said = said & text(gap) & byte(form, part[i]);
+pub fn bytes(rt: &impl Print, form: Form, gap: &[u8], part: &[u8]) -> io::Result<()> {
+    for b in part {
+        text(rt, gap)?;
+        byte(rt, form, *b)?;
     }
-    said
+    Ok(())
 }

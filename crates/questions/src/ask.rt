@@ -12,6 +12,9 @@ use programs::say;
 use programs::say::Form;
 use record::places::SIZE;
 use record::record_from;
+use refusals::Refusal;
+use std::io;
+use std::io::Read;
 
 // The longest table, selection, buffer or output that is handed over: wrong lengths are tried too.
 const MOST: usize = 4096;
@@ -19,126 +22,169 @@ const MOST: usize = 4096;
 // What an output holds before a cut or a run over a batch.
 pub const FILL: u8 = 0xA5;
 
-pub fn end_line() -> bool {
-    say::text(b"\n")
+pub fn end_line(rt: &impl Print) -> io::Result<()> {
+    say::text(rt, b"\n")
 }
 
-pub fn say_hex(bytes: &[u8]) -> bool {
-    say::bytes(Form::Hex, b"", bytes) & end_line()
+pub fn say_hex(rt: &impl Print, bytes: &[u8]) -> io::Result<()> {
+    say::bytes(rt, Form::Hex, b"", bytes)?;
+    end_line(rt)
+}
+
+pub fn say_refused(rt: &impl Print, r: Refusal) -> io::Result<()> {
+    say::refusal(rt, r)?;
+    end_line(rt)
+}
+
+fn say_counted(rt: &impl Print, words: &[u8], n: usize) -> io::Result<()> {
+    say::number(rt, words, n)?;
+    end_line(rt)
 }
 
 // The first bytes.
-fn say_front(text: &[u8], len: usize) -> bool
+fn say_front(rt: &impl Print, text: &[u8], len: usize) -> io::Result<()>
     requires { len ≤ length text.now }
 {
-    say::text(&text[0..len])
+    say::text(rt, &text[0..len])
 }
 
-fn say_report(table: &[u8]) -> bool {
+fn say_report(rt: &impl Print, table: &[u8]) -> io::Result<()> {
     let mut out = [0u8; TEXT];
     match write_answer(table, &mut out) {
-        Wrote::Length(len) => say_front(&out, len),
-        Wrote::Refused(r) => say::refusal(r) & end_line(),
+        Wrote::Length(len) => say_front(rt, &out, len),
+        Wrote::Refused(r) => say_refused(rt, r),
     }
 }
 
-fn judge_filled(table: &mut [u8]) -> bool {
-    filled(table) & say_report(table) & end_line()
+fn judge_filled(rt: &impl Print, input: &mut impl Read, table: &mut [u8]) -> io::Result<bool> {
+    let whole = filled(input, table)?;
+    say_report(rt, table)?;
+    end_line(rt)?;
+    Ok(whole)
 }
 
-pub fn take_judging() -> bool {
-    let len = next_word();
+pub fn take_judging(rt: &impl Print, input: &mut impl Read) -> io::Result<bool> {
+    let len = next_word(input)?;
     if MOST < len {
-        return false;
+        return Ok(false);
     }
     let mut table = [0u8; MOST];
-    judge_filled(&mut table[0..len])
+    judge_filled(rt, input, &mut table[0..len])
 }
 
-fn say_cut(table: &[u8], selection: &[u8], out: &mut [u8]) -> bool {
+fn say_cut(rt: &impl Print, table: &[u8], selection: &[u8], out: &mut [u8]) -> io::Result<()> {
     match cut(table, selection, out) {
-        CutDown::Kept(k) => say::number(b"cut ", k) & end_line(),
-        CutDown::Refused(r) => say::refusal(r) & end_line(),
+        CutDown::Kept(k) => say_counted(rt, b"cut ", k),
+        CutDown::Refused(r) => say_refused(rt, r),
     }
 }
 
-fn cut_filled(table: &mut [u8], selection: &[u8], out: &mut [u8]) -> bool {
-    filled(table) & say_cut(table, selection, out) & say_hex(out) & end_line()
+fn cut_filled(
+    rt: &impl Print,
+    input: &mut impl Read,
+    table: &mut [u8],
+    selection: &[u8],
+    out: &mut [u8],
+) -> io::Result<bool> {
+    let whole = filled(input, table)?;
+    say_cut(rt, table, selection, out)?;
+    say_hex(rt, out)?;
+    end_line(rt)?;
+    Ok(whole)
 }
 
 // The rest of a question about a cut, once its selection is there.
-fn take_cut_by(selection: &[u8]) -> bool {
-    let size = next_word();
-    let len = next_word();
+fn take_cut_by(rt: &impl Print, input: &mut impl Read, selection: &[u8]) -> io::Result<bool> {
+    let size = next_word(input)?;
+    let len = next_word(input)?;
     if MOST < size {
-        return false;
+        return Ok(false);
     }
     if MOST < len {
-        return false;
+        return Ok(false);
     }
     let mut table = [0u8; MOST];
     let mut out = [FILL; MOST];
-    cut_filled(&mut table[0..len], selection, &mut out[0..size])
+    cut_filled(rt, input, &mut table[0..len], selection, &mut out[0..size])
 }
 
-fn cut_by_filled(selection: &mut [u8]) -> bool {
-    if filled(selection) {
-        return take_cut_by(selection);
+fn cut_by_filled(rt: &impl Print, input: &mut impl Read, selection: &mut [u8]) -> io::Result<bool> {
+    if filled(input, selection)? {
+        return take_cut_by(rt, input, selection);
     }
-    false
+    Ok(false)
 }
 
-pub fn take_cut() -> bool {
-    let len = next_word();
+pub fn take_cut(rt: &impl Print, input: &mut impl Read) -> io::Result<bool> {
+    let len = next_word(input)?;
     if MOST < len {
-        return false;
+        return Ok(false);
     }
     let mut selection = [0u8; MOST];
-    cut_by_filled(&mut selection[0..len])
+    cut_by_filled(rt, input, &mut selection[0..len])
 }
 
-fn say_append(buffer: &mut [u8], used: usize, new: Record) -> bool {
+fn say_append(rt: &impl Print, buffer: &mut [u8], used: usize, new: Record) -> io::Result<()> {
     match append(buffer, used, new) {
-        Appended::Count(k) => say::number(b"count ", k) & end_line(),
-        Appended::Refused(r) => say::refusal(r) & end_line(),
+        Appended::Count(k) => say_counted(rt, b"count ", k),
+        Appended::Refused(r) => say_refused(rt, r),
     }
 }
 
-fn append_filled(buffer: &mut [u8], used: usize, new: Record) -> bool {
-    filled(buffer) & say_append(buffer, used, new) & say_hex(buffer) & end_line()
+fn append_filled(
+    rt: &impl Print,
+    input: &mut impl Read,
+    buffer: &mut [u8],
+    used: usize,
+    new: Record,
+) -> io::Result<bool> {
+    let whole = filled(input, buffer)?;
+    say_append(rt, buffer, used, new)?;
+    say_hex(rt, buffer)?;
+    end_line(rt)?;
+    Ok(whole)
 }
 
-pub fn take_append() -> bool {
-    let used = next_word();
+pub fn take_append(rt: &impl Print, input: &mut impl Read) -> io::Result<bool> {
+    let used = next_word(input)?;
     let mut new = [0u8; SIZE];
-    if !filled(&mut new) {
-        return false;
+    if !filled(input, &mut new)? {
+        return Ok(false);
     }
-    let len = next_word();
+    let len = next_word(input)?;
     if MOST < len {
-        return false;
+        return Ok(false);
     }
     let mut buffer = [0u8; MOST];
-    append_filled(&mut buffer[0..len], used, record_from(&new))
+    append_filled(rt, input, &mut buffer[0..len], used, record_from(&new))
 }
 
-fn say_fetch_test(table: &[u8], asked: usize) -> bool {
+fn say_fetch_test(rt: &impl Print, table: &[u8], asked: usize) -> io::Result<()> {
     match refusal_of_fetch(table, asked) {
-        FetchTest::Given => say::text(b"given\n"),
-        FetchTest::Refused(r) => say::refusal(r) & end_line(),
+        FetchTest::Given => say::text(rt, b"given\n"),
+        FetchTest::Refused(r) => say_refused(rt, r),
     }
 }
 
-fn fetch_filled(table: &mut [u8], asked: usize) -> bool {
-    filled(table) & say_hex(fetch(table, asked)) & say_fetch_test(table, asked) & end_line()
+fn fetch_filled(
+    rt: &impl Print,
+    input: &mut impl Read,
+    table: &mut [u8],
+    asked: usize,
+) -> io::Result<bool> {
+    let whole = filled(input, table)?;
+    say_hex(rt, fetch(table, asked))?;
+    say_fetch_test(rt, table, asked)?;
+    end_line(rt)?;
+    Ok(whole)
 }
 
-pub fn take_fetch() -> bool {
-    let asked = next_word();
-    let len = next_word();
+pub fn take_fetch(rt: &impl Print, input: &mut impl Read) -> io::Result<bool> {
+    let asked = next_word(input)?;
+    let len = next_word(input)?;
     if MOST < len {
-        return false;
+        return Ok(false);
     }
     let mut table = [0u8; MOST];
-    fetch_filled(&mut table[0..len], asked)
+    fetch_filled(rt, input, &mut table[0..len], asked)
 }

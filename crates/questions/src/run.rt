@@ -1,11 +1,13 @@
 // The questions about a batch: all its answers in one call, and its figures.
-use crate::ask::{FILL, end_line, say_hex};
+use crate::ask::{FILL, end_line, say_hex, say_refused};
 use crate::input::{filled, next_word};
 use answers::{Answers, Run, write_answers};
 use batches::Ending;
 use phrases::Wrote;
 use programs::say;
 use sheet::write_figures;
+use std::io;
+use std::io::Read;
 
 // The longest batch or output that is handed over.
 const LONGEST: usize = 65535;
@@ -17,57 +19,71 @@ pub enum Asked {
     Figures,
 }
 
-fn say_ending(ending: Ending) -> bool {
+fn say_ending(rt: &impl Print, ending: Ending) -> io::Result<()> {
     match ending {
-        Ending::Clean => say::text(b"cleanly"),
-        Ending::Refused(r) => say::refusal(r),
+        Ending::Clean => say::text(rt, b"cleanly"),
+        Ending::Refused(r) => say::refusal(rt, r),
     }
 }
 
-fn say_answers(answers: Answers) -> bool {
+fn say_answers(rt: &impl Print, answers: Answers) -> io::Result<()> {
     let ending = answers.ending;
-    say::number(b"answered ", answers.tables)
-        & say::number(b" tables ", answers.bytes)
-        & say::text(b" bytes, ended ")
-        & say_ending(ending)
-        & end_line()
+    say::number(rt, b"answered ", answers.tables)?;
+    say::number(rt, b" tables ", answers.bytes)?;
+    say::text(rt, b" bytes, ended ")?;
+    say_ending(rt, ending)?;
+    end_line(rt)
 }
 
-fn say_run(batch: &[u8], out: &mut [u8]) -> bool {
+fn say_run(rt: &impl Print, batch: &[u8], out: &mut [u8]) -> io::Result<()> {
     match write_answers(batch, out) {
-        Run::Done(answers) => say_answers(answers),
-        Run::Refused(r) => say::refusal(r) & end_line(),
+        Run::Done(answers) => say_answers(rt, answers),
+        Run::Refused(r) => say_refused(rt, r),
     }
 }
 
-fn say_figures(batch: &[u8], out: &mut [u8]) -> bool {
+fn say_figures(rt: &impl Print, batch: &[u8], out: &mut [u8]) -> io::Result<()> {
     match write_figures(batch, out) {
-        Wrote::Length(len) => say::number(b"wrote ", len) & say::text(b" bytes") & end_line(),
-        Wrote::Refused(r) => say::refusal(r) & end_line(),
+        Wrote::Length(len) => {
+            say::number(rt, b"wrote ", len)?;
+            say::text(rt, b" bytes")?;
+            end_line(rt)
+        }
+        Wrote::Refused(r) => say_refused(rt, r),
     }
 }
 
-fn say_asked(asked: Asked, batch: &[u8], out: &mut [u8]) -> bool {
+fn say_asked(rt: &impl Print, asked: Asked, batch: &[u8], out: &mut [u8]) -> io::Result<()> {
     match asked {
-        Asked::Answers => say_run(batch, out),
-        Asked::Figures => say_figures(batch, out),
+        Asked::Answers => say_run(rt, batch, out),
+        Asked::Figures => say_figures(rt, batch, out),
     }
 }
 
-fn run_filled(asked: Asked, batch: &mut [u8], out: &mut [u8]) -> bool {
-    filled(batch) & say_asked(asked, batch, out) & say_hex(out) & end_line()
+fn run_filled(
+    rt: &impl Print,
+    input: &mut impl Read,
+    asked: Asked,
+    batch: &mut [u8],
+    out: &mut [u8],
+) -> io::Result<bool> {
+    let whole = filled(input, batch)?;
+    say_asked(rt, asked, batch, out)?;
+    say_hex(rt, out)?;
+    end_line(rt)?;
+    Ok(whole)
 }
 
-pub fn take_batch(asked: Asked) -> bool {
-    let size = next_word();
-    let len = next_word();
+pub fn take_batch(rt: &impl Print, input: &mut impl Read, asked: Asked) -> io::Result<bool> {
+    let size = next_word(input)?;
+    let len = next_word(input)?;
     if LONGEST < size {
-        return false;
+        return Ok(false);
     }
     if LONGEST < len {
-        return false;
+        return Ok(false);
     }
     let mut batch = [0u8; LONGEST];
     let mut out = [FILL; LONGEST];
-    run_filled(asked, &mut batch[0..len], &mut out[0..size])
+    run_filled(rt, input, asked, &mut batch[0..len], &mut out[0..size])
 }

@@ -1,5 +1,7 @@
 // A reader that holds the caller's batch and a place in it, and hands out one table after another. Each of its functions takes it apart and calls one of
 // `batches` on the slice and the number.
+#![tactic(auto)]
+
 ghost use Rattle.std.specs.Prelude.{◌≡◌};
 ghost use Rattle.batches.specs.Batch.{standing, stands_at};
 ghost use Rattle.batches.specs.Reading.{bytes_of, place_after};

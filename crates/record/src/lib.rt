@@ -1,4 +1,6 @@
 // The sixteen bytes of a record, read and written.
+#![tactic(auto)]
+
 mod fields;
 pub mod places;
 mod rules;

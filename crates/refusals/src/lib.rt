@@ -1,4 +1,6 @@
 // Why an operation is refused: the refusals 1 to 13 of document 01 and those of a batch, 14 and 15, each with its number, its place and, for a record, its byte.
+#![tactic(auto)]
+
 ghost use Rattle.std.specs.Prelude.{◌≡◌};
 ghost use Rattle.refusals.specs.Numbers.{fault_number, fault_byte, at, of_record, told};
 

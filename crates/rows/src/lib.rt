@@ -1,4 +1,6 @@
 // Relations on small numbers held in rows of 64-bit words, and the sets that their rows are.
+#![tactic(auto)]
+
 pub mod led;
 pub mod row;
 pub mod search;

@@ -1,4 +1,6 @@
 // A selection of a table's records, as bytes: the one place that knows how it is given.
+#![tactic(auto)]
+
 ghost use Rattle.std.specs.Prelude.{◌≡◌, ℕ, ◌*◌, ◌<◌, ◌≤◌, T, length};
 ghost use Rattle.laws.specs.Says.{Says};
 ghost use Rattle.selections.specs.Selection.{selection_size, named, Refused9};

@@ -1,4 +1,6 @@
 // Monday's figures as text, line by line.
+#![tactic(auto)]
+
 ghost use Rattle.std.specs.Prelude.{◌++◌, ◌≤◌, length, take};
 ghost use Rattle.findings.specs.Family.{all_in_order, name_of};
 ghost use Rattle.batches.specs.Batch.{refused, end_of};

@@ -1,4 +1,6 @@
 // A record at its place in a table: its bytes, read and written.
+#![tactic(auto)]
+
 mod parts;
 
 ghost use Rattle.std.specs.Prelude.{◌≡◌, ◌+◌, ◌*◌, ◌≤◌, length};

@@ -1,4 +1,6 @@
 // A table of records as bytes: its test (refusals 1 to 8, each with its place), and its records, read.
+#![tactic(auto)]
+
 mod accesses;
 mod faults;
 mod stored;

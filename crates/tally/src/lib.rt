@@ -1,4 +1,6 @@
 // Monday's figures as values: none, and the sums of two.
+#![tactic(auto)]
+
 ghost use Rattle.std.specs.Prelude.{◌≡◌, [], ◌≤◌, length};
 ghost use Rattle.tally.specs.Figures.{larger, figures_of};
 ghost use Rattle.tally.specs.Sums.{add_each, sums, SmallEach, Small};

@@ -1,4 +1,6 @@
 // Text into a lent buffer: pieces of bytes, decimal numbers, lists of numbers.
+#![tactic(auto)]
+
 ghost use Rattle.std.specs.Prelude.{◌≡◌, [], ◌∷◌, ◌+◌, ◌%◌, ◌≤◌, length, take};
 ghost use Rattle.text.specs.Text.{Written, decimal, spaced, spaced_each};
 

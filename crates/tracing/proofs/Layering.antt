@@ -15,7 +15,7 @@ use Rattle.laws.proofs.Steps.{Within}
 use Rattle.laws.proofs.Walks.{walk_starts}
 use Rattle.cycle.specs.Distances.{Reaches}
 use Rattle.cycle.proofs.Entries.{after}
-use Rattle.tracing.specs.Layers.{entry, flag_of, Flagged, Nearer, Nearer.reached, Nearer.had, Nearer.no_step, Empty, Spread, StepsTo, Layer, Round}
+use Rattle.tracing.specs.Layers.{entry, flag_of, Flagged, Nearer, Empty, Spread, StepsTo, Layer, Round}
 
 -- ---- the loops over one row
 

@@ -1,37 +1,36 @@
 // Judges the table on standard input, and writes its report to standard output.
+#![tactic(auto)]
+
 ghost use Rattle.std.specs.Prelude.{◌≤◌, length};
 
+use anyhow::{Context, Result, bail};
 use limits::LIMIT;
 use lines::{TEXT, write_answer};
 use phrases::Wrote;
 use record::places::SIZE;
+use std::io::Read;
 
 // One record more than a table may have: a longer input is refused by what is read of it.
 const MOST: usize = SIZE * LIMIT + SIZE;
 
 // The first bytes.
-fn write_out(text: &[u8], len: usize)
+fn write_out(rt: &impl Print, text: &[u8], len: usize) -> Result<()>
     requires { len ≤ length text.now }
 {
-    if !io::write_all(libc::STDOUT_FILENO, &text[0..len]) {
-        os::fail(b"output");
-    }
+    rt.write_all(&text[0..len]).context("output")
 }
 
-fn answer(table: &[u8]) {
+fn answer(rt: &impl Print, table: &[u8]) -> Result<()> {
     let mut out = [0u8; TEXT];
     match write_answer(table, &mut out) {
-        Wrote::Length(len) => write_out(&out, len),
-        Wrote::Refused(_) => os::fail(b"report"),
+        Wrote::Length(len) => write_out(rt, &out, len),
+        Wrote::Refused(_) => bail!("report"),
     }
 }
 
-fn main() {
-    let mut table = [0u8; MOST];
-    let len = io::read_full(libc::STDIN_FILENO, &mut table);
-    if os::errno() != 0 {
-        os::fail(b"input");
-        return;
-    }
-    answer(&table[..len]);
+fn main(rt: HostRuntime) -> Result<()> {
+    let mut table = Vec::new(rt.alloc());
+    let mut input = rt.stdin().take(MOST as u64);
+    input.read_to_end(&mut table).context("input")?;
+    answer(&rt, &table)
 }

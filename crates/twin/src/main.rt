@@ -1,36 +1,35 @@
 // The third opinion on the table on standard input, to standard output.
+#![tactic(auto)]
+
 ghost use Rattle.std.specs.Prelude.{◌≤◌, length};
 
+use anyhow::{Context, Result, bail};
 use lines::TEXT;
 use opinion::{MOST, write_opinion};
 use phrases::Wrote;
+use std::io::Read;
 
 // One byte more than is judged: a longer input is too large by what is read of it.
 const READ: usize = MOST + 1;
 
 // The first bytes.
-fn write_out(text: &[u8], len: usize)
+fn write_out(rt: &impl Print, text: &[u8], len: usize) -> Result<()>
     requires { len ≤ length text.now }
 {
-    if !io::write_all(libc::STDOUT_FILENO, &text[0..len]) {
-        os::fail(b"output");
-    }
+    rt.write_all(&text[0..len]).context("output")
 }
 
-fn answer(input: &[u8]) {
+fn answer(rt: &impl Print, input: &[u8]) -> Result<()> {
     let mut out = [0u8; TEXT];
     match write_opinion(input, &mut out) {
-        Wrote::Length(len) => write_out(&out, len),
-        Wrote::Refused(_) => os::fail(b"report"),
+        Wrote::Length(len) => write_out(rt, &out, len),
+        Wrote::Refused(_) => bail!("report"),
     }
 }
 
-fn main() {
-    let mut input = [0u8; READ];
-    let len = io::read_full(libc::STDIN_FILENO, &mut input);
-    if os::errno() != 0 {
-        os::fail(b"input");
-        return;
-    }
-    answer(&input[..len]);
+fn main(rt: HostRuntime) -> Result<()> {
+    let mut input = Vec::new(rt.alloc());
+    let mut front = rt.stdin().take(READ as u64);
+    front.read_to_end(&mut input).context("input")?;
+    answer(&rt, &input)
 }

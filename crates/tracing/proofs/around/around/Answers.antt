@@ -1,10 +1,7 @@
 -- `around::around` meets its contract: the way goes through none of the records below `from`.
-use Prim.Native.Nat.{ℕ, ◌-◌, ◌<◌, ◌≤◌}
 use native.Mathlib.Omega.{arith}
 use borrow.Author.Count.{below_more}
 use Rattle.laws.proofs.Says.{said, denied, says_yes}
-use Rattle.table.specs.Events.{events_of}
-use Rattle.tracing.specs.Around.{Through}
 use Rattle.tracing.proofs.Ways.{none_through}
 use Rattle.tracing.proofs.around.around.Goals as goal
 

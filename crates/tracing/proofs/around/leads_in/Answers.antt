@@ -1,5 +1,4 @@
 -- `around::leads_in` meets its contract, way by way.
-use borrow.Author.Rules.{rules}
 use Rattle.tracing.proofs.around.leads_in.Goals as goal
 
 pub returns-in-Owned : goal.returns-in-Owned

@@ -1,5 +1,4 @@
 -- `around::onward` meets its contract: hb is asked only where the way leads in.
-use borrow.Author.Rules.{rules}
 use Rattle.asking.proofs.Asked.{then_asked, not_asked}
 use Rattle.tracing.proofs.Ways.{says_onward}
 use Rattle.tracing.proofs.around.onward.Goals as goal

@@ -1,5 +1,4 @@
 -- `around::owns` meets its contract: a write owns itself and its readers.
-use borrow.Author.Rules.{rules}
 use Rattle.tracing.proofs.Owned.{owns_itself, owns_nothing, owns_by_source}
 use Rattle.tracing.proofs.around.owns.Goals as goal
 

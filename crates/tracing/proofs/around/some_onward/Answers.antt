@@ -1,11 +1,8 @@
 -- `around::some_onward` meets its contract: the way goes on by none of the records below `to`.
-use Prim.Native.Nat.{ℕ, ◌-◌, ◌<◌, ◌≤◌}
 use native.Mathlib.Omega.{arith}
 use borrow.Author.Count.{below_more}
 use Rattle.laws.proofs.Says.{said, denied, says_yes}
-use Rattle.table.specs.Events.{events_of}
 use Rattle.facts.proofs.Records.{two_of}
-use Rattle.tracing.specs.Around.{Onward}
 use Rattle.tracing.proofs.Ways.{none_onward}
 use Rattle.tracing.proofs.around.some_onward.Goals as goal
 

@@ -1,5 +1,4 @@
 -- `cycles::back` meets its contract: the entry of s itself.
-use borrow.Author.Rules.{rules}
 use Rattle.tracing.proofs.StepsBack.{step_low}
 use Rattle.tracing.proofs.Cycling.{back_of}
 use Rattle.tracing.proofs.cycles.back.Goals as goal

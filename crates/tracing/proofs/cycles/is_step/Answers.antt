@@ -1,5 +1,4 @@
 -- `cycles::is_step` meets its contract: each relation has its own question.
-use borrow.Author.Rules.{rules}
 use Rattle.tracing.proofs.cycles.is_step.Goals as goal
 
 pub returns-in-Wb0 : goal.returns-in-Wb0

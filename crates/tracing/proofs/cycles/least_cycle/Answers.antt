@@ -1,7 +1,6 @@
 -- `cycles::least_cycle` meets its contract: the least closed walk from the least start, or no start.
 use mathlib.Core.Path.{refl}
 use native.Mathlib.Omega.{arith}
-use borrow.Author.Rules.{rules}
 use Rattle.findings.proofs.Meant.{found_cycle, found_no_cycle}
 use Rattle.facts.proofs.Records.{few}
 use Rattle.tracing.proofs.StepsBack.{step_low}
@@ -19,7 +18,7 @@ write_cycle-requires c = let (table, room) = c.requires in
     let on = step_low c.args.which table in
     record {
       table = table;
-      entries = omega (arith, few table, c.steps_to.auto.1.1.1.1.0);
+      entries = omega (arith, few table, c.steps_to.auto.dist);
       start = h;
       is = refl;
       small = cycling.start_small on sh h f;

@@ -1,11 +1,8 @@
 -- `cycles::least_start` meets its contract: `best` is the fewest of those below s, and `at` the first that has it.
-use mathlib.Core.Path.{◌≡◌}
-use mathlib.Core.Logic.{⊎_elim}
 use Prim.Native.Nat.{◌-◌, ◌≤◌}
-use native.Mathlib.Omega.{arith}
 use Rattle.table.specs.Events.{events_of}
 use Rattle.tracing.specs.Cycles.{step_of}
-use Rattle.tracing.proofs.Cycling.{Sofar, start_none, start_take, start_keep, start_end}
+use Rattle.tracing.proofs.Cycling.{Sofar}
 use Rattle.tracing.proofs.cycles.least_start.Given as goal
 
 abbrev pub invariant-loop-s : goal.invariant-loop-s

@@ -1,14 +1,10 @@
 -- `cycles::next_of` meets its contract: none of the records below x will do.
 use mathlib.Core.Path.{◌≡◌}
-use mathlib.Core.Logic.{⊎_elim}
-use Prim.Native.Nat.{ℕ, ◌-◌, ◌<◌, ◌≤◌}
 use native.Mathlib.Omega.{arith}
 use borrow.Author.Count.{below_more}
 use Rattle.laws.proofs.Says.{said, denied}
-use Rattle.table.specs.Events.{events_of}
-use Rattle.tracing.specs.Layers.{entry}
-use Rattle.tracing.specs.Cycles.{step_of}
 use Rattle.tracing.proofs.cycles.next_of.Goals as goal
+use Rattle.tracing.proofs.cycles.next_of.Goals.{then-dist-x+else-is_step, else-dist-x}
 
 pub is_step-requires : goal.is_step-requires
 is_step-requires c = let q = c.requires in
@@ -24,7 +20,7 @@ returns-then-is_step c = record {
 pub loop-x-preserved : goal.loop-x-preserved
 loop-x-preserved c = (
   omega arith,
-  below_more _ _ c.loop-x.invariant.1 (λ s q. ⊎_elim (λ w. denied w.1.ensures w.2.left s) (λ w. w.left q) c.if-dist-x.branch),
+  below_more _ _ c.loop-x.invariant.1 (λ s q. elim c.if-dist-x.branch [ then-dist-x+else-is_step w ↦ denied w.is_step.ensures w.if-is_step.false s | else-dist-x w ↦ w.if-dist-x.false q ]),
 )
 
 pub returns : goal.returns

@@ -1,10 +1,6 @@
 -- `cycles::next_of` meets its contract: none of the records below x will do.
 use mathlib.Core.Path.{◌≡◌}
-use mathlib.Core.Logic.{⊎_elim}
 use Prim.Native.Nat.{ℕ, ◌-◌, ◌<◌, ◌≤◌}
-use native.Mathlib.Omega.{arith}
-use borrow.Author.Count.{below_more}
-use Rattle.laws.proofs.Says.{said, denied}
 use Rattle.table.specs.Events.{events_of}
 use Rattle.tracing.specs.Layers.{entry}
 use Rattle.tracing.specs.Cycles.{step_of}

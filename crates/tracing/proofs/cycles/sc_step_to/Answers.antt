@@ -1,5 +1,4 @@
 -- `cycles::sc_step_to` meets its contract: byte a of b's column.
-use borrow.Author.Rules.{rules}
 use Rattle.laws.proofs.Says.{says_eq, says_iff}
 use Rattle.tracing.proofs.cycles.sc_step_to.Goals as goal
 

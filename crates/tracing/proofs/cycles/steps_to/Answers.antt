@@ -1,5 +1,4 @@
 -- `cycles::steps_to` meets its contract: each relation has its own layers.
-use borrow.Author.Rules.{rules}
 use Rattle.tracing.proofs.cycles.steps_to.Goals as goal
 
 pub returns-in-Wb0 : goal.returns-in-Wb0

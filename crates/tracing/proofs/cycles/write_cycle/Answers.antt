@@ -1,23 +1,13 @@
 -- `cycles::write_cycle` meets its contract: the first i records of the list are written, and what is least from the last makes the whole least.
 use mathlib.Core.Path.{◌≡◌, refl, ◌∙◌}
-use Prim.Native.Nat.{◌+◌, ◌-◌, ◌<◌, ◌≤◌}
+use Prim.Native.Nat.{◌<◌}
 use native.Mathlib.Omega.{arith}
-use lib.ListN.{length, length-set}
-use Rattle.cycle.proofs.Writing.{Writing, writing_first}
-use Rattle.table.specs.Events.{events_of}
+use lib.ListN.{length-set}
+use Rattle.cycle.proofs.Writing.{writing_first}
 use Rattle.facts.proofs.Records.{few}
-use Rattle.tracing.specs.Layers.{entry}
-use Rattle.tracing.specs.Cycles.{step_of}
 use Rattle.tracing.proofs.StepsBack.{step_low}
 use Rattle.tracing.proofs.Cycling.{next_there, writing_more, writing_end}
 use Rattle.tracing.proofs.cycles.write_cycle.Goals as goal
-
--- the next record is there
-there : (c : tie.After-next-of invariant_loop decreases_loop) → c.next_of.result < (start c).args.n
-there c =
-    let q = (start c).requires in
-    let i = c.before.before.loop.invariant in
-    next_there (step_low (start c).args.which q.table) q.steps i.2 q.small i.3 c.before.loop-test.true i.0 c.next_of.ensures
 
 pub overflow_cast-out : goal.overflow_cast-out
 overflow_cast-out c = let q = c.requires in omega (arith, few q.table, q.start)
@@ -37,22 +27,27 @@ next_of-a-requires c = let q = c.requires in
     record { table = q.table; inside = omega (arith, c.loop-i.invariant.2, q.start); entries = q.entries }
 
 pub overflow_cast-out-in-loop-i : goal.overflow_cast-out-in-loop-i
-overflow_cast-out-in-loop-i c = omega (arith, there c, few c.requires.table)
+overflow_cast-out-in-loop-i c = let q = c.requires in
+    let i = c.loop-i.invariant in
+    let there : c.next_of-a.result < c.args.n = next_there (step_low c.args.which q.table) q.steps i.2 q.small i.3 c.loop-i-test.true i.0 c.next_of-a.ensures in
+    omega (arith, few q.table)
 
 pub bounds-out-i : goal.bounds-out-i
 bounds-out-i c = omega (arith, length-set c.args.out.now 0 c.args.s, c.requires.room)
 
 pub loop-i-preserved : goal.loop-i-preserved
 loop-i-preserved c = let q = c.requires in
+    let i = c.loop-i.invariant in
+    let there : c.next_of-a.result < c.args.n = next_there (step_low c.args.which q.table) q.steps i.2 q.small i.3 c.loop-i-test.true i.0 c.next_of-a.ensures in
     let l = c.loop-i in
     let f = c.next_of-a.ensures in (
       omega arith,
       omega arith,
-      there c,
-      omega (arith, (f.hit (there c)).1),
-      length-set l.out l.i c.next_of-a.result ∙ l.invariant.4,
-      writing_more (step_low c.args.which q.table) q.steps l.invariant.2 q.small l.invariant.3 c.loop-i-test.true l.invariant.0
-          (omega (arith, length-set c.args.out.now 0 c.args.s, q.room)) f l.invariant.5,
+      there,
+      omega (arith, (f.hit there).1),
+      length-set l.out l.i c.next_of-a.result ∙ i.4,
+      writing_more (step_low c.args.which q.table) q.steps i.2 q.small i.3 c.loop-i-test.true i.0
+          (omega (arith, length-set c.args.out.now 0 c.args.s, q.room)) f i.5,
     )
 
 pub returns : goal.returns

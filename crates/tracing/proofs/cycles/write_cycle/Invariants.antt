@@ -1,15 +1,11 @@
 -- `cycles::write_cycle` meets its contract: the first i records of the list are written, and what is least from the last makes the whole least.
-use mathlib.Core.Path.{◌≡◌, refl, ◌∙◌}
+use mathlib.Core.Path.{◌≡◌}
 use Prim.Native.Nat.{◌+◌, ◌-◌, ◌<◌, ◌≤◌}
-use native.Mathlib.Omega.{arith}
-use lib.ListN.{length, length-set}
-use Rattle.cycle.proofs.Writing.{Writing, writing_first}
+use lib.ListN.{length}
+use Rattle.cycle.proofs.Writing.{Writing}
 use Rattle.table.specs.Events.{events_of}
-use Rattle.facts.proofs.Records.{few}
 use Rattle.tracing.specs.Layers.{entry}
 use Rattle.tracing.specs.Cycles.{step_of}
-use Rattle.tracing.proofs.StepsBack.{step_low}
-use Rattle.tracing.proofs.Cycling.{next_there, writing_more, writing_end}
 use Rattle.tracing.proofs.cycles.write_cycle.Given as goal
 
 abbrev pub invariant-loop-i : goal.invariant-loop-i

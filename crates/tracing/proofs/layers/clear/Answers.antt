@@ -1,8 +1,6 @@
 -- `layers::clear` meets its contract: the first x entries are none.
 use mathlib.Core.Path.{◌≡◌}
-use Prim.Native.Nat.{◌-◌, ◌≤◌}
 use native.Mathlib.Omega.{arith}
-use Rattle.tracing.specs.Layers.{Empty}
 use Rattle.tracing.proofs.Layering.{empty_none, empty_more}
 use Rattle.tracing.proofs.layers.clear.Goals as goal
 

@@ -1,10 +1,6 @@
 -- `layers::spread` meets its contract: the first x entries are looked at.
-use mathlib.Core.Path.{◌≡◌}
 use Prim.Native.Nat.{◌-◌, ◌≤◌}
-use native.Mathlib.Omega.{arith}
-use borrow.Author.Rules.{rules}
 use Rattle.tracing.specs.Layers.{Spread}
-use Rattle.tracing.proofs.Layering.{spread_none, spread_more}
 use Rattle.tracing.proofs.layers.spread.Given as goal
 
 abbrev pub invariant-loop-x : goal.invariant-loop-x

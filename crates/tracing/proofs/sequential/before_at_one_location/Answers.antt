@@ -1,5 +1,4 @@
 -- `sequential::before_at_one_location` meets its contract: hb is asked only at one location.
-use borrow.Author.Rules.{rules}
 use Rattle.laws.proofs.Says.{says_is}
 use Rattle.facts.proofs.Records.{second_of}
 use Rattle.asking.proofs.Asked.{then_asked, not_asked}

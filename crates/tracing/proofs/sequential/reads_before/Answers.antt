@@ -1,6 +1,5 @@
 -- `sequential::reads_before` meets its contract: the entry of the source tells.
 use native.Mathlib.Omega.{arith}
-use borrow.Author.Rules.{rules}
 use Rattle.facts.proofs.Records.{two_of, first_of}
 use Rattle.tracing.proofs.AmongSc.{no_fr_to_itself, no_fr_without_source, source_low, says_fr}
 use Rattle.tracing.proofs.sequential.reads_before.Goals as goal

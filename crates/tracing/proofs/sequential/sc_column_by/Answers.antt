@@ -1,11 +1,6 @@
 -- `sequential::sc_column_by` meets its contract: the first x bytes are written.
 use mathlib.Core.Path.{◌≡◌}
-use Prim.Native.Nat.{◌-◌, ◌≤◌}
 use native.Mathlib.Omega.{arith}
-use borrow.Author.Rules.{rules}
-use Rattle.model.specs.Relations.{ScStep}
-use Rattle.table.specs.Events.{events_of}
-use Rattle.tracing.specs.Layers.{Column}
 use Rattle.tracing.proofs.Layering.{flagged_none, flagged_more}
 use Rattle.tracing.proofs.sequential.sc_column_by.Goals as goal
 

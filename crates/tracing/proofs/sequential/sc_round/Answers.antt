@@ -1,11 +1,6 @@
 -- `sequential::sc_round` meets its contract: the records before y have been asked.
 use mathlib.Core.Path.{◌≡◌, refl}
-use Prim.Native.Nat.{◌-◌, ◌≤◌}
 use native.Mathlib.Omega.{arith}
-use lib.ListN.{length}
-use Rattle.model.specs.Relations.{ScStep}
-use Rattle.table.specs.Events.{events_of}
-use Rattle.tracing.specs.Layers.{Round}
 use Rattle.tracing.proofs.Layering.{round_none, round_more}
 use Rattle.tracing.proofs.sequential.sc_round.Goals as goal
 

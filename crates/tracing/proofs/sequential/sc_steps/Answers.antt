@@ -1,15 +1,8 @@
 -- `sequential::sc_steps` meets its contract: layer k is complete.
 use mathlib.Core.Path.{◌≡◌, refl, ◌∙◌}
-use Prim.Native.Nat.{◌-◌, ◌<◌, ◌≤◌}
 use native.Mathlib.Omega.{arith}
-use borrow.Author.Rules.{rules}
-use lib.ListN.{length}
-use Rattle.model.specs.Relations.{ScStep}
-use Rattle.table.specs.Events.{events_of}
-use Rattle.limits.specs.Limit.{limit}
 use Rattle.facts.proofs.Records.{few}
 use Rattle.tracing.specs.declared.cycles.Steps.TheVariants.{Sc}
-use Rattle.tracing.specs.Layers.{Layer}
 use Rattle.tracing.proofs.Layering.{layer_first, layer_done, layers_done}
 use Rattle.tracing.proofs.StepsBack.{step_low}
 use Rattle.tracing.proofs.sequential.sc_steps.Goals as goal
@@ -48,7 +41,7 @@ loop-k-preserved c = let i = c.loop-k.invariant in
       omega arith,
       omega arith,
       round.ensures.size ∙ i.2,
-      round.auto.1.1.1.0 ∙ i.3,
+      round.auto.col ∙ i.3,
       layer_done (step_low Sc c.requires.table) i.0 c.loop-k-test.true (round.ensures.next _ i.4),
     )
 

@@ -1,17 +1,11 @@
 -- `sequential::sc_steps` meets its contract: layer k is complete.
-use mathlib.Core.Path.{◌≡◌, refl, ◌∙◌}
+use mathlib.Core.Path.{◌≡◌}
 use Prim.Native.Nat.{◌-◌, ◌<◌, ◌≤◌}
-use native.Mathlib.Omega.{arith}
-use borrow.Author.Rules.{rules}
 use lib.ListN.{length}
 use Rattle.model.specs.Relations.{ScStep}
 use Rattle.table.specs.Events.{events_of}
 use Rattle.limits.specs.Limit.{limit}
-use Rattle.facts.proofs.Records.{few}
-use Rattle.tracing.specs.declared.cycles.Steps.TheVariants.{Sc}
 use Rattle.tracing.specs.Layers.{Layer}
-use Rattle.tracing.proofs.Layering.{layer_first, layer_done, layers_done}
-use Rattle.tracing.proofs.StepsBack.{step_low}
 use Rattle.tracing.proofs.sequential.sc_steps.Given as goal
 
 abbrev pub invariant-loop-k : goal.invariant-loop-k

@@ -1,5 +1,4 @@
 -- `writes::two_writes` meets its contract, part by part.
-use borrow.Author.Rules.{rules}
 use Rattle.laws.proofs.Says.{says_eq, says_not, says_and, says_iff, says_is}
 use Rattle.tracing.proofs.writes.two_writes.Goals as goal
 

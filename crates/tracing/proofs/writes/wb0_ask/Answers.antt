@@ -1,5 +1,4 @@
 -- `writes::wb0_ask` meets its contract: a column is spread where y is in layer k.
-use borrow.Author.Rules.{rules}
 use Rattle.tracing.specs.declared.cycles.Steps.TheVariants as steps
 use Rattle.tracing.proofs.Layering.{round_asked, round_passed}
 use Rattle.tracing.proofs.StepsBack.{step_low}

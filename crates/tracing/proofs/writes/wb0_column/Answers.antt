@@ -1,11 +1,6 @@
 -- `writes::wb0_column` meets its contract: the first x bytes are written.
 use mathlib.Core.Path.{◌≡◌}
-use Prim.Native.Nat.{◌-◌, ◌≤◌}
 use native.Mathlib.Omega.{arith}
-use borrow.Author.Rules.{rules}
-use Rattle.model.specs.Relations.{Wb0}
-use Rattle.table.specs.Events.{events_of}
-use Rattle.tracing.specs.Layers.{Column}
 use Rattle.tracing.proofs.Layering.{flagged_none, flagged_more}
 use Rattle.tracing.proofs.writes.wb0_column.Goals as goal
 

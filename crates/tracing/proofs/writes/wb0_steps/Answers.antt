@@ -1,15 +1,8 @@
 -- `writes::wb0_steps` meets its contract: layer k is complete.
 use mathlib.Core.Path.{◌≡◌, refl, ◌∙◌}
-use Prim.Native.Nat.{◌-◌, ◌<◌, ◌≤◌}
 use native.Mathlib.Omega.{arith}
-use borrow.Author.Rules.{rules}
-use lib.ListN.{length}
-use Rattle.model.specs.Relations.{Wb0}
-use Rattle.table.specs.Events.{events_of}
-use Rattle.limits.specs.Limit.{limit}
 use Rattle.facts.proofs.Records.{few}
 use Rattle.tracing.specs.declared.cycles.Steps.TheVariants as steps
-use Rattle.tracing.specs.Layers.{Layer}
 use Rattle.tracing.proofs.Layering.{layer_first, layer_done, layers_done}
 use Rattle.tracing.proofs.StepsBack.{step_low}
 use Rattle.tracing.proofs.writes.wb0_steps.Goals as goal
@@ -44,7 +37,7 @@ pub loop-k-preserved : goal.loop-k-preserved
 loop-k-preserved c = let i = c.loop-k.invariant in
     let round = c.wb0_round in
     let row = c.requires in
-    (omega arith, omega arith, round.ensures.size ∙ i.2, round.auto.1.1.1.0 ∙ i.3, layer_done (step_low steps.Wb0 row.table) i.0 c.loop-k-test.true (round.ensures.next _ i.4))
+    (omega arith, omega arith, round.ensures.size ∙ i.2, round.auto.col ∙ i.3, layer_done (step_low steps.Wb0 row.table) i.0 c.loop-k-test.true (round.ensures.next _ i.4))
 
 pub shape_of-dist : goal.shape_of-dist
 shape_of-dist c = c.loop-k.invariant.2 ∙ (c.spread.ensures.size ∙ c.clear.ensures.size)

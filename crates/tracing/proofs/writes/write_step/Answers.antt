@@ -1,7 +1,6 @@
 -- `writes::write_step` meets its contract: what two writes own is asked only where they fit.
 use mathlib.Core.Bool.{Bool}
 use Prim.Native.Nat.{ℕ}
-use borrow.Author.Rules.{rules}
 use Rattle.laws.specs.Says.{Says}
 use Rattle.laws.proofs.Says.{says_iff}
 use Rattle.model.specs.Table.{Table}
