@@ -1,6 +1,5 @@
 -- `judge` meets its contract: "1, 11, then records".
 use mathlib.Core.Path.{refl}
-use borrow.Author.Rules.{rules}
 use Rattle.laws.proofs.Says.{said, denied, says_is}
 use Rattle.judge.specs.Answer.{wrong_length, no_room}
 use Rattle.judge.proofs.Answering.{room_told, refused}

@@ -1,5 +1,4 @@
 -- `judge_records` meets its contract: the first fault of the records, or the report.
-use borrow.Author.Rules.{rules}
 use Rattle.table.proofs.Front.{front_whole, records_test}
 use Rattle.facts.proofs.Promise.{counted}
 use Rattle.judge.specs.Answer.{bad_record}
@@ -8,15 +7,11 @@ use Rattle.judge.proofs.judge_records.Goals as goal
 
 pub report_of-requires : goal.report_of-requires
 report_of-requires c = let (ok, roomy) = c.requires in
-    let test-records = c.test_records in
-    (counted _ _ (records_test _ ok (rw c.in-Sound.is at test-records.ensures)), roomy)
+    (counted _ _ (records_test _ ok (rw c.in-Sound.is at c.test_records.ensures)), roomy)
 
 pub returns-in-Sound : goal.returns-in-Sound
 returns-in-Sound c = let (ok, roomy) = c.requires in
-    let test-records = c.test_records in
-    let sound = c.n-1 in
-    let report-of = c.report_of in
-    reported ok roomy (rw (front_whole _ ok, sound.given.1) at test-records.ensures) report-of.ensures
+    reported ok roomy (rw (front_whole _ ok, c.in-Sound.is) at c.test_records.ensures) c.report_of.ensures
 
 pub returns-in-Refused : goal.returns-in-Refused
 returns-in-Refused c = let (ok, roomy) = c.requires in

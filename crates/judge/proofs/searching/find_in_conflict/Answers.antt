@@ -1,5 +1,4 @@
 -- `searching::find_in_conflict` meets its contract: the two searches, or nothing where no records conflict.
-use borrow.Author.Rules.{rules}
 use Rattle.laws.proofs.Says.{denied}
 use Rattle.rows.proofs.Rows.{room_kept}
 use Rattle.judge.proofs.Grounds.{none_in_conflict}
@@ -25,7 +24,7 @@ find_sources_in_conflict-a3-requires c = let p = c.requires.0 in
       for_below = p.for_below;
       for_arms = p.for_arms;
       for_conflicting = p.for_conflicting;
-      for_shows = room_kept c.find_before_in_conflict-a2.auto.1.1.0 p.for_shows;
+      for_shows = room_kept c.find_before_in_conflict-a2.auto.shows p.for_shows;
     }
 
 pub returns-then-relates_any : goal.returns-then-relates_any

@@ -1,5 +1,4 @@
 -- `searching::find_small` meets its contract: the local arrays have room for a small table.
-use mathlib.Core.Path.{refl}
 use native.Mathlib.Omega.{arith}
 use Rattle.judge.proofs.Grounds.{rooms_lent}
 use Rattle.judge.proofs.searching.find_small.Goals as goal
@@ -9,10 +8,10 @@ find_in-requires c = let (counted, roomy, low) = c.requires in
     (counted, roomy, rooms_lent (record { some = omega arith; most = omega arith; not_3 = omega arith }) (omega arith) (omega arith) (omega arith) (omega arith) (omega arith))
 
 pub shape_of-first : goal.shape_of-first
-shape_of-first c = c.find_in.auto.1.1.1.1.1.1.1.1.1.1.1.1.1.1.1.0
+shape_of-first c = c.find_in.auto.first
 
 pub shape_of-second : goal.shape_of-second
-shape_of-second c = c.find_in.auto.1.1.1.1.1.1.1.1.1.1.1.1.1.1.1.1.0
+shape_of-second c = c.find_in.auto.second
 
 pub returns : goal.returns
 returns c = c.find_in.ensures
