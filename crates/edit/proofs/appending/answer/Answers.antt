@@ -1,7 +1,6 @@
 -- `appending::answer` meets its contract: what is not in use as it should be is refused with 1.
 use mathlib.Core.Path.{refl}
 use native.Mathlib.Omega.{arith}
-use borrow.Author.Rules.{rules}
 use Rattle.edit.specs.Append.{not_in_use}
 use Rattle.edit.proofs.appending.answer.Goals as goal
 

@@ -1,19 +1,10 @@
 -- `appending::answer_for_new` meets its contract: the test of the new record is its test in the extended table.
 use mathlib.Core.Path.{refl}
 use native.Mathlib.Omega.{arith}
-use borrow.Author.Rules.{rules}
 use Rattle.table.proofs.Exact.{passes_of, fault_of}
 use Rattle.edit.specs.Append.{Ready, full, no_room, bad_new, good}
 use Rattle.edit.proofs.NewRecord.{in_use_pass}
 use Rattle.edit.proofs.appending.answer_for_new.Goals as goal
-
-ready :
-    (c : tie.After-check-new) →
-    let entry = c.before.before.before.before in
-    Ready entry.args.buffer.now entry.args.used
-ready c =
-    let entry = c.before.before.before.before in
-    record { sound_use = entry.requires; not_full = c.before.before.if1.false; room = c.before.if2.true }
 
 pub returns-then-used-eq-LIMIT : goal.returns-then-used-eq-LIMIT
 returns-then-used-eq-LIMIT c = full c.requires c.if-used-eq-LIMIT.true refl
@@ -22,10 +13,12 @@ pub check_new-requires : goal.check_new-requires
 check_new-requires c = record { held = c.requires.in_use.held; passed = in_use_pass c.requires }
 
 pub returns-in-Fine : goal.returns-in-Fine
-returns-in-Fine c = good (ready c) (passes_of (rw c.in-Fine.is at c.check_new.ensures))
+returns-in-Fine c = let ready : Ready c.args.buffer.now c.args.used = record { sound_use = c.requires; not_full = c.if-used-eq-LIMIT.false; room = c.if-used-buffer.true } in
+    good ready (passes_of (rw c.in-Fine.is at c.check_new.ensures))
 
 pub returns-in-Faulty : goal.returns-in-Faulty
-returns-in-Faulty c = bad_new (ready k) (fault_of (rw c.in-Faulty.is at c.check_new.ensures)) refl
+returns-in-Faulty c = let ready : Ready c.args.buffer.now c.args.used = record { sound_use = c.requires; not_full = c.if-used-eq-LIMIT.false; room = c.if-used-buffer.true } in
+    bad_new ready (fault_of (rw c.in-Faulty.is at c.check_new.ensures)) refl
 
 pub returns : goal.returns
 returns c = no_room c.requires c.if-used-eq-LIMIT.false (λ h. absurd (omega (arith, c.if-used-buffer.false))) refl

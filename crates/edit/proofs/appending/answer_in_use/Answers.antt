@@ -1,5 +1,4 @@
 -- `appending::answer_in_use` meets its contract: the refusal of the records in use, or the answer for the new one.
-use borrow.Author.Rules.{rules}
 use Rattle.edit.specs.Append.{bad_record}
 use Rattle.edit.proofs.NewRecord.{sound_use}
 use Rattle.edit.proofs.appending.answer_in_use.Goals as goal

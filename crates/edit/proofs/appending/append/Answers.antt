@@ -1,6 +1,5 @@
 -- `appending::append` meets its contract: the new record is written only where its count is answered.
 use native.Mathlib.Omega.{arith}
-use borrow.Author.Rules.{rules}
 use Rattle.edit.proofs.NewRecord.{count_ready}
 use Rattle.edit.proofs.appending.append.Goals as goal
 

@@ -1,12 +1,8 @@
 -- `completeness::any_kept` meets its contract: no number of the row below a is kept.
-use Prim.Native.Nat.{ℕ, ◌-◌, ◌*◌, ◌<◌}
 use native.Mathlib.Omega.{arith}
-use lib.Dec.{T}
 use Rattle.laws.proofs.Says.{said, denied, says_is, says_yes, says_no}
-use Rattle.rows.specs.Rows.{On}
 use Rattle.rows.proofs.Along.{along_none, along_more}
 use Rattle.rows.proofs.Rows.{room_row}
-use Rattle.selections.specs.Selection.{named}
 use Rattle.edit.proofs.completeness.any_kept.Goals as goal
 
 pub next-a-requires : goal.next-a-requires

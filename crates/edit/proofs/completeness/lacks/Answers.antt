@@ -1,5 +1,4 @@
 -- `completeness::lacks` meets its contract: it is told part by part.
-use borrow.Author.Rules.{rules}
 use Rattle.laws.proofs.Says.{says_is}
 use Rattle.edit.proofs.Completing.{lacking_told}
 use Rattle.edit.proofs.completeness.lacks.Goals as goal

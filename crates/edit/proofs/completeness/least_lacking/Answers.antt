@@ -1,6 +1,5 @@
 -- `completeness::least_lacking` meets its contract: the columns are read.
 use native.Mathlib.Omega.{arith}
-use borrow.Author.Rules.{rules}
 use Rattle.facts.proofs.Records.{few}
 use Rattle.edit.proofs.Lending.{columns_room}
 use Rattle.edit.proofs.completeness.least_lacking.Goals as goal

@@ -1,15 +1,10 @@
 -- `completeness::least_lacking_by` meets its contract: no record below b lacks anything.
-use Prim.Native.Nat.{ℕ, ◌+◌, ◌-◌, ◌<◌, ◌≤◌}
 use native.Mathlib.Omega.{arith}
 use borrow.Author.Count.{below_more}
 use Rattle.laws.specs.Least.{Least}
 use Rattle.laws.proofs.Says.{said, denied}
 use Rattle.laws.proofs.Passed.{number_found}
-use Rattle.selections.specs.Selection.{named}
-use Rattle.model.specs.Table.{Table}
 use Rattle.columns.proofs.Facts.{below}
-use Rattle.edit.specs.Columns.{Judging}
-use Rattle.edit.specs.Cut.{Lacking}
 use Rattle.edit.proofs.completeness.least_lacking_by.Goals as goal
 
 pub lacks-requires : goal.lacks-requires

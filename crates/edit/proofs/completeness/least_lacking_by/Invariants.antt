@@ -1,13 +1,7 @@
 -- `completeness::least_lacking_by` meets its contract: no record below b lacks anything.
-use Prim.Native.Nat.{ℕ, ◌+◌, ◌-◌, ◌<◌, ◌≤◌}
-use native.Mathlib.Omega.{arith}
-use borrow.Author.Count.{below_more}
-use Rattle.laws.specs.Least.{Least}
-use Rattle.laws.proofs.Says.{said, denied}
-use Rattle.laws.proofs.Passed.{number_found}
+use Prim.Native.Nat.{ℕ, ◌-◌, ◌<◌, ◌≤◌}
 use Rattle.selections.specs.Selection.{named}
 use Rattle.model.specs.Table.{Table}
-use Rattle.columns.proofs.Facts.{below}
 use Rattle.edit.specs.Columns.{Judging}
 use Rattle.edit.specs.Cut.{Lacking}
 use Rattle.edit.proofs.completeness.least_lacking_by.Given as goal

@@ -1,7 +1,6 @@
 -- `completeness::least_lacking_of` meets its contract: hb, the writes of each place and the races are laid in rows.
 use Prim.Native.Nat.{◌*◌, ◌≤◌}
 use native.Mathlib.Omega.{arith}
-use borrow.Author.Rules.{rules}
 use Rattle.edit.proofs.Lending.{four_words, laying, judging}
 use Rattle.edit.proofs.completeness.least_lacking_of.Goals as goal
 

@@ -3,7 +3,6 @@ use mathlib.Core.Path.{refl, subst}
 use Prim.Native.Nat.{ℕ}
 use native.Mathlib.Omega.{arith}
 use lib.Dec.{T}
-use borrow.Author.Rules.{rules}
 use Rattle.laws.proofs.Says.{says_yes, says_is, says_iff}
 use Rattle.selections.specs.Selection.{named}
 use Rattle.edit.proofs.completeness.link_kept.Goals as goal

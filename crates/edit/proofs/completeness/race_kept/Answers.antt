@@ -1,5 +1,4 @@
 -- `completeness::race_kept` meets its contract: it does not stand on a race, or a racing write is kept.
-use borrow.Author.Rules.{rules}
 use Rattle.laws.proofs.Says.{says_if}
 use Rattle.edit.proofs.Completing.{race_kept_told}
 use Rattle.edit.proofs.completeness.race_kept.Goals as goal

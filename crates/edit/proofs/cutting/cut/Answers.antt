@@ -1,7 +1,6 @@
 -- `cutting::cut` meets its contract: the table's refusal, or the cut of a sound table.
 use mathlib.Core.Path.{refl}
 use native.Mathlib.Omega.{arith}
-use borrow.Author.Rules.{rules}
 use Rattle.edit.specs.Cut.{bad_table}
 use Rattle.edit.proofs.cutting.cut.Goals as goal
 

@@ -1,6 +1,5 @@
 -- `cutting::cut_by` meets its contract: the least record that lacks something is 10's place.
 use mathlib.Core.Path.{refl}
-use borrow.Author.Rules.{rules}
 use Rattle.selections.proofs.Naming.{bit_for_each}
 use Rattle.facts.proofs.Promise.{counted}
 use Rattle.facts.proofs.Records.{few}

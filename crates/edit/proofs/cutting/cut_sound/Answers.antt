@@ -1,6 +1,5 @@
 -- `cutting::cut_sound` meets its contract: 9, or the cut by a selection that is not refused.
 use mathlib.Core.Path.{refl}
-use borrow.Author.Rules.{rules}
 use Rattle.laws.proofs.Says.{said, denied}
 use Rattle.edit.specs.Cut.{bad_selection}
 use Rattle.edit.proofs.cutting.cut_sound.Goals as goal

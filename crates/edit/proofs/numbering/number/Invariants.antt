@@ -1,14 +1,9 @@
 -- `numbering::number` meets its contract: the first n records have their new numbers, none above n.
-use mathlib.Core.Path.{◌≡◌, ap, ◌∙◌}
-use mathlib.Core.Bool.{Bool}
+use mathlib.Core.Path.{◌≡◌}
 use Prim.Native.Nat.{◌-◌, ◌≤◌}
-use native.Mathlib.Omega.{arith}
-use lib.ListN.{length, length-set}
+use lib.ListN.{length}
 use Rattle.selections.specs.Selection.{named}
-use Rattle.model.specs.Cut.{one_more_if}
-use Rattle.model.proofs.CutNumbers.{new_at_most}
 use Rattle.edit.specs.Columns.{Numbered}
-use Rattle.edit.proofs.NewNumbers.{numbered_none, numbered_more}
 use Rattle.edit.proofs.numbering.number.Given as goal
 
 abbrev pub invariant-loop-n : goal.invariant-loop-n

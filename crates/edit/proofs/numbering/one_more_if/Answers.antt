@@ -1,5 +1,4 @@
 -- `numbering::one_more_if` meets its contract: by the test that led there.
-use borrow.Author.Rules.{rules}
 use native.Mathlib.Omega.{arith}
 use Rattle.edit.proofs.numbering.one_more_if.Goals as goal
 

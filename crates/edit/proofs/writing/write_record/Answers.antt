@@ -3,7 +3,6 @@ use mathlib.Core.Path.{ap, ◌∙◌}
 use Prim.Native.Nat.{ℕ, ◌*◌}
 use native.Mathlib.Nat.{add-sub_cancel_left}
 use lib.ListN.{take, drop}
-use borrow.Author.Rules.{rules}
 use Rattle.record.specs.Form.{overwritten}
 use Rattle.edit.specs.Columns.{number_in}
 use Rattle.edit.specs.Cut.{renumbered_bytes}
