@@ -24,9 +24,3 @@ returns-in-Table c = answered (table_stands c.item_at.ensures c.in-Table.is) c.j
 
 pub returns-in-Ended : goal.returns-in-Ended
 returns-in-Ended c = ended (end_stands c.item_at.ensures c.in-Ended.is) refl refl
-
-pub slice_bounds-judge-start : goal.slice_bounds-judge-start
-slice_bounds-judge-start c = slice_bounds-judge-start
-
-pub slice_bounds-judge-end : goal.slice_bounds-judge-end
-slice_bounds-judge-end c = slice_bounds-judge-end

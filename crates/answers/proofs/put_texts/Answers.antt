@@ -41,9 +41,3 @@ shape_of-out-in-Ended c = out_long c.args.batch.now c.args.out.now c.requires c.
 
 pub returns-in-Ended : goal.returns-in-Ended
 returns-in-Ended c = along_all c.args.batch.now c.args.out.now c.requires c.loop-from.invariant (end_stands c.item_at.ensures c.in-Ended.is)
-
-pub slice_bounds-put_text-start : goal.slice_bounds-put_text-start
-slice_bounds-put_text-start c = slice_bounds-put_text-start
-
-pub slice_bounds-put_text-end : goal.slice_bounds-put_text-end
-slice_bounds-put_text-end c = slice_bounds-put_text-end

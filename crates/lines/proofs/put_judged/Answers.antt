@@ -2,7 +2,6 @@
 use mathlib.Core.Path.{sym, ap, subst}
 use mathlib.Core.List.{List}
 use Prim.Native.Nat.{ℕ}
-use borrow.Author.Rules.{rules}
 use Rattle.judge.specs.declared.Report.{Report}
 use Rattle.judge.specs.declared.Judged.{Judged}
 use Rattle.judge.specs.declared.Judged.TheVariants.{Reported}
@@ -33,7 +32,7 @@ put_report-requires c = let a = c.args in (
 pub returns-in-Refused : goal.returns-in-Refused
 returns-in-Refused c = let a = c.args in
     written_text (ap (text a.first.now a.second.now) (sym c.in-Refused.is))
-    (written_text (ap refused_text c.told.ensures) c.Put-refused.ensures)
+    (written_text (ap refused_text c.told.ensures) c.put_refused.ensures)
 
 pub returns-in-Reported : goal.returns-in-Reported
 returns-in-Reported c = let a = c.args in

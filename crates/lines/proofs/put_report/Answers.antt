@@ -1,7 +1,6 @@
 -- `put_report` meets its contract: the count, the lines of the findings, the verdict.
 use mathlib.Core.List.{List}
 use Prim.Native.Nat.{ℕ}
-use borrow.Author.Rules.{rules}
 use Rattle.findings.specs.declared.Findings.{Findings}
 use Rattle.findings.specs.declared.Verdict.{Verdict}
 use Rattle.findings.specs.Family.{all_in_order}

@@ -3,7 +3,6 @@ use mathlib.Core.Path.{sym, ap}
 use mathlib.Core.List.{List}
 use Prim.Native.Nat.{ℕ}
 use native.Mathlib.Omega.{arith}
-use borrow.Author.Rules.{rules}
 use Rattle.text.proofs.Laws.{written_text}
 use Rattle.findings.specs.declared.Verdict.{Verdict}
 use Rattle.phrases.specs.Phrases.{line}

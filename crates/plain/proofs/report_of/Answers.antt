@@ -1,5 +1,4 @@
 -- `report_of` meets its contract: the verdict follows from what was found.
-use borrow.Author.Rules.{rules}
 use Rattle.judge.proofs.Reporting.{report_right}
 use Rattle.plain.proofs.report_of.Goals as goal
 

@@ -22,17 +22,17 @@ pub found_line-next-requires : goal.found_line-next-requires
 found_line-next-requires c = let a = c.args in
     omega (
       arith,
-      ap length (line_is a.t3 c.loop-place.place c.at.result (omega arith) c.at.ensures),
-      each_room (found_line a.t3) a.out.now all_in_order c.loop-place.out a.at (length all_in_order) c.loop-place.place c.loop-place.next R
+      ap length (line_is a.counts c.loop-place.place c.at.result (omega arith) c.at.ensures),
+      each_room (found_line a.counts) a.out.now all_in_order c.loop-place.out a.at (length all_in_order) c.loop-place.place c.loop-place.next R
           c.at.result (omega arith) (omega arith) c.requires c.loop-place.invariant.1 c.at.ensures,
     )
 
 pub loop-place-preserved : goal.loop-place-preserved
 loop-place-preserved c = let a = c.args in (
   omega arith,
-  each_more (found_line a.t3) a.out.now all_in_order c.loop-place.out a.at (length all_in_order) c.loop-place.place c.loop-place.next R
+  each_more (found_line a.counts) a.out.now all_in_order c.loop-place.out a.at (length all_in_order) c.loop-place.place c.loop-place.next R
       c.at.result (omega arith) (omega arith) c.requires c.loop-place.invariant.1 c.at.ensures
-      (written_text (line_is a.t3 c.loop-place.place c.at.result (omega arith) c.at.ensures) c.found_line-next.ensures),
+      (written_text (line_is a.counts c.loop-place.place c.at.result (omega arith) c.at.ensures) c.found_line-next.ensures),
 )
 
 pub returns : goal.returns

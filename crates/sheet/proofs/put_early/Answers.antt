@@ -15,7 +15,7 @@ put_refused-requires c = let a = c.args in
 
 pub returns-then-told-eq1 : goal.returns-then-told-eq1
 returns-then-told-eq1 c = let a = c.args in
-    written_text (sym (only_refused a.figures a.told c.if-told-eq1.true)) c.Put-refused.ensures
+    written_text (sym (only_refused a.figures a.told c.if-told-eq1.true)) c.put_refused.ensures
 
 pub put_figures-last-requires : goal.put_figures-last-requires
 put_figures-last-requires c = let a = c.args in

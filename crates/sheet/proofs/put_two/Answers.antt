@@ -1,5 +1,4 @@
 -- `put_two` meets its contract: one number, and the other after it.
-use borrow.Author.Rules.{rules}
 use Rattle.text.specs.Text.{spaced}
 use Rattle.text.proofs.Laws.{written_then}
 use Rattle.phrases.proofs.Pieces.{room_front, room_back}

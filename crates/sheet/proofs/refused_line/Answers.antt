@@ -1,7 +1,6 @@
 -- `refused_line` meets its contract: the word, the number and the count, the line end.
 use mathlib.Core.List.{List, [], ◌∷◌, ◌++◌}
 use Prim.Native.Nat.{ℕ}
-use borrow.Author.Rules.{rules}
 use Rattle.text.specs.Text.{spaced}
 use Rattle.phrases.specs.Phrases.{refused_word}
 use Rattle.phrases.proofs.Pieces.{first_room, second_room, third_room, all_three}

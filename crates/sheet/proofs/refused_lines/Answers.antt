@@ -23,17 +23,17 @@ pub refused_line-next-requires : goal.refused_line-next-requires
 refused_line-next-requires c = let a = c.args in
     omega (
       arith,
-      ap length (line_is a.t3 c.loop-place.place),
-      each_room (refused_line a.t3) a.out.now numbers c.loop-place.out a.at (length numbers) c.loop-place.place c.loop-place.next 0
+      ap length (line_is a.counts c.loop-place.place),
+      each_room (refused_line a.counts) a.out.now numbers c.loop-place.out a.at (length numbers) c.loop-place.place c.loop-place.next 0
           (c.loop-place.place + 1) (omega arith) (omega arith) c.requires c.loop-place.invariant.1 (sym (number_at c.loop-place.place (omega arith))),
     )
 
 pub loop-place-preserved : goal.loop-place-preserved
 loop-place-preserved c = let a = c.args in (
   omega arith,
-  each_more (refused_line a.t3) a.out.now numbers c.loop-place.out a.at (length numbers) c.loop-place.place c.loop-place.next 0
+  each_more (refused_line a.counts) a.out.now numbers c.loop-place.out a.at (length numbers) c.loop-place.place c.loop-place.next 0
       (c.loop-place.place + 1) (omega arith) (omega arith) c.requires c.loop-place.invariant.1 (sym (number_at c.loop-place.place (omega arith)))
-      (written_text (line_is a.t3 c.loop-place.place) c.refused_line-next.ensures),
+      (written_text (line_is a.counts c.loop-place.place) c.refused_line-next.ensures),
 )
 
 pub returns : goal.returns

@@ -23,8 +23,8 @@ pub loop-n-preserved : goal.loop-n-preserved
 loop-n-preserved c = let is = says_is c.names.ensures in
     let h = c.loop-n-test.true in
     elim c.if-names.branch [
-      then-names w ↦ (omega arith, w.out-is ∙ one_written c.requires h c.loop-n.invariant.1 (said is w.if-names.true) w.write_record.ensures)
-    | else-names w ↦ (omega arith, w.out-is ∙ none_written c.requires h c.loop-n.invariant.1 (denied is w.if-names.false))
+      | then-names w ↦ (omega arith, w.out-is ∙ one_written c.requires h c.loop-n.invariant.1 (said is w.if-names.true) w.write_record.ensures)
+      | else-names w ↦ (omega arith, w.out-is ∙ none_written c.requires h c.loop-n.invariant.1 (denied is w.if-names.false))
     ]
 
 pub shape_of-out : goal.shape_of-out

@@ -1,6 +1,5 @@
 -- `family::finding_line` meets its contract: the name, the witness, the line end.
 use mathlib.Core.List.{[], ◌∷◌}
-use borrow.Author.Rules.{rules}
 use Rattle.findings.specs.Family.{name_of}
 use Rattle.phrases.proofs.Pieces.{first_room, second_room, third_room, all_three}
 use Rattle.lines.specs.Lines.{witness_text}

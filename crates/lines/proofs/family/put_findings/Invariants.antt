@@ -1,16 +1,10 @@
 -- `family::put_findings` meets its contract: in the loop the lines of the findings before `place` stand.
-use mathlib.Core.Path.{◌≡◌, ap}
 use Prim.Native.Nat.{◌-◌, ◌≤◌}
-use native.Mathlib.Omega.{arith}
 use lib.ListN.{length, take}
-use borrow.Author.Rules.{rules}
-use Rattle.findings.specs.declared.Finding.TheVariants.{R}
 use Rattle.findings.specs.Family.{all_in_order}
 use Rattle.text.specs.Text.{Written}
-use Rattle.text.proofs.Laws.{written_length, written_text, written_nothing, each_room, each_more}
-use Rattle.lines.specs.Lines.{finding_line, lines_of}
+use Rattle.lines.specs.Lines.{lines_of}
 use Rattle.lines.specs.Witnesses.{witnesses}
-use Rattle.lines.proofs.Reading.{line_is, whole_is}
 use Rattle.lines.proofs.family.put_findings.Given as goal
 
 abbrev pub invariant-loop-place : goal.invariant-loop-place

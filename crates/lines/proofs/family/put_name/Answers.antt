@@ -1,7 +1,6 @@
 -- `family::put_name` meets its contract: the front of the name's two bytes is the name.
 use mathlib.Core.Path.{ap}
 use native.Mathlib.Omega.{arith}
-use borrow.Author.Rules.{rules}
 use lib.ListN.{length}
 use Rattle.text.proofs.Laws.{written_text}
 use Rattle.lines.proofs.family.put_name.Goals as goal

@@ -2,7 +2,6 @@
 use mathlib.Core.Path.{sym, ap, subst}
 use mathlib.Core.List.{List}
 use Prim.Native.Nat.{ℕ}
-use borrow.Author.Rules.{rules}
 use Rattle.findings.specs.declared.Found.{Found}
 use Rattle.text.specs.Text.{spaced}
 use Rattle.text.proofs.Laws.{written_text, written_then}

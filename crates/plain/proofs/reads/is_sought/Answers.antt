@@ -1,5 +1,4 @@
 -- `reads::is_sought` meets its contract: each arm asks for its writes.
-use borrow.Author.Rules.{rules}
 use Rattle.plain.proofs.reads.is_sought.Goals as goal
 
 pub returns-in-Racing : goal.returns-in-Racing

@@ -1,6 +1,5 @@
 -- `reads::justified` meets its contract: the link of the source tells which case it is.
 use mathlib.Core.Path.{sym, ◌∙◌}
-use borrow.Author.Rules.{rules}
 use Rattle.links.proofs.Sourced.{the_source}
 use Rattle.links.proofs.Reading.{says_justified, says_justified_without}
 use Rattle.plain.proofs.reads.justified.Goals as goal

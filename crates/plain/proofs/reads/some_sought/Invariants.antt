@@ -1,11 +1,7 @@
 -- `reads::some_sought` meets its contract: none of the numbers below w is sought, and only records are.
 use Prim.Native.Nat.{ℕ, ◌-◌, ◌<◌, ◌≤◌}
-use native.Mathlib.Omega.{arith}
-use borrow.Author.Count.{below_more}
-use Rattle.laws.proofs.Says.{said, denied, says_yes, says_no}
 use Rattle.table.specs.Events.{events_of}
 use Rattle.plain.specs.Reads.{sought_of}
-use Rattle.plain.proofs.Reading.{sought_low}
 use Rattle.plain.proofs.reads.some_sought.Given as goal
 
 abbrev pub invariant-loop-w : goal.invariant-loop-w

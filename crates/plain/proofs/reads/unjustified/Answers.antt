@@ -1,7 +1,6 @@
 -- `reads::unjustified` meets its contract: whether it is justified is asked of reads.
 use mathlib.Core.Bool.{Bool}
 use Prim.Native.Nat.{ℕ}
-use borrow.Author.Rules.{rules}
 use Rattle.laws.specs.Says.{Says}
 use Rattle.laws.proofs.Says.{says_is, says_not, says_iff}
 use Rattle.asking.proofs.Asked.{then_asked, not_asked}

@@ -1,7 +1,10 @@
 -- `searching::find_all` meets its contract: each finding by the search that asks for it.
 use native.Mathlib.Omega.{arith}
-use borrow.Author.Rules.{rules}
 use Rattle.findings.specs.declared.Finding.TheVariants.{R, A1, A2, A3, A4, A5, W}
+use Rattle.findings.specs.Family.{found_of}
+use Rattle.findings.specs.Meant.{Finds}
+use Rattle.model.specs.Findings.{Shows}
+use Rattle.table.specs.Events.{events_of}
 use Rattle.facts.proofs.Records.{few}
 use Rattle.plain.proofs.Pairing.{pairs_found}
 use Rattle.plain.proofs.searching.find_all.Goals as goal
@@ -21,7 +24,7 @@ pub returns : goal.returns
 returns c = let cycle-of-writes = c.least_cycle-a1.ensures in
     let cycle-of-steps = c.least_cycle-a4.ensures in
     record {
-      each = λ f. elim f [
+      each = λ f. elim f as (λ k. Finds (Shows (events_of c.args.table.now) k) (found_of _ k)) [
         | R ↦ c.find_read-r.ensures
         | A1 ↦ cycle-of-writes.finds
         | A2 ↦ pairs_found c.find_pair-a2.ensures

@@ -1,15 +1,11 @@
 -- `searching::find_pair` meets its contract: the pairs before p, q are passed, and nothing is found until the search is left.
-use mathlib.Core.Path.{◌≡◌, refl}
-use Prim.Native.Nat.{◌-◌, ◌≤◌}
+use mathlib.Core.Path.{refl}
 use native.Mathlib.Omega.{arith}
 use Rattle.laws.proofs.Says.{said, denied}
-use Rattle.laws.proofs.Passed.{Passed, passed_none, passed_more, passed_row, passed_all, passed_found}
-use Rattle.findings.specs.declared.Found.TheVariants.{Nothing}
+use Rattle.laws.proofs.Passed.{passed_none, passed_more, passed_row, passed_all, passed_found}
 use Rattle.findings.proofs.Meant.{found_pair, found_no_pair}
 use Rattle.model.proofs.Shown.{pair_within}
-use Rattle.table.specs.Events.{events_of}
 use Rattle.facts.proofs.Records.{formed, within_count}
-use Rattle.plain.specs.Pairs.{PairShows}
 use Rattle.plain.proofs.searching.find_pair.Goals as goal
 
 pub loop-q-init : goal.loop-q-init

@@ -1,7 +1,6 @@
 -- `pairs::conflict_before` meets its contract: hb is asked only of records in conflict.
 use mathlib.Core.Bool.{Bool}
 use Prim.Native.Nat.{ℕ}
-use borrow.Author.Rules.{rules}
 use Rattle.laws.specs.Says.{Says}
 use Rattle.laws.proofs.Says.{says_iff}
 use Rattle.asking.proofs.Asked.{then_asked, not_asked}

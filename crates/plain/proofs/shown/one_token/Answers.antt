@@ -1,6 +1,5 @@
 -- `pairs::one_token` meets its contract: the link of the earlier record's source tells it, then part by part.
 use mathlib.Core.Path.{refl, sym, ◌∙◌}
-use borrow.Author.Rules.{rules}
 use Rattle.laws.proofs.Says.{says_is, says_lt, says_not, says_and}
 use Rattle.links.proofs.Sourced.{the_source, says_by_source, says_no_source}
 use Rattle.links.proofs.Showing.{says_A5}

@@ -1,6 +1,5 @@
 -- `pairs::reads_from` meets its contract: the link of the record's source tells it.
 use mathlib.Core.Path.{refl, sym, ◌∙◌}
-use borrow.Author.Rules.{rules}
 use Rattle.links.proofs.Sourced.{the_source}
 use Rattle.links.proofs.Showing.{says_the_source, says_never_source}
 use Rattle.plain.proofs.shown.reads_from.Goals as goal

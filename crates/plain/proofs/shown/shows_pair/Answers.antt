@@ -1,5 +1,4 @@
 -- `pairs::shows_pair` meets its contract: each arm asks the function of its finding, and a pair is no record and no cycle.
-use borrow.Author.Rules.{rules}
 use Rattle.laws.proofs.Says.{says_no}
 use Rattle.links.proofs.Showing.{no_record, no_cycle, says_pair}
 use Rattle.plain.proofs.shown.shows_pair.Goals as goal

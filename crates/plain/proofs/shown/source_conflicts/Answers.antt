@@ -1,6 +1,5 @@
 -- `pairs::source_conflicts` meets its contract: the link of the source tells it.
 use mathlib.Core.Path.{refl, sym, ◌∙◌}
-use borrow.Author.Rules.{rules}
 use Rattle.links.proofs.Sourced.{the_source, source_low, says_by_source, says_no_source}
 use Rattle.plain.proofs.shown.source_conflicts.Goals as goal
 

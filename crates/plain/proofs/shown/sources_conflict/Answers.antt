@@ -1,6 +1,5 @@
 -- `pairs::sources_conflict` meets its contract: the link of the later record's source tells it.
 use mathlib.Core.Path.{refl, sym, ◌∙◌}
-use borrow.Author.Rules.{rules}
 use Rattle.laws.proofs.Says.{says_and}
 use Rattle.links.proofs.Sourced.{the_source, source_low, says_by_source, says_no_source}
 use Rattle.links.proofs.Showing.{says_A3}

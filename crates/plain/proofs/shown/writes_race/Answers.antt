@@ -1,7 +1,6 @@
 -- `pairs::writes_race` meets its contract: the race is asked only of two writes in order.
 use mathlib.Core.Bool.{Bool}
 use Prim.Native.Nat.{ℕ, ◌<◌}
-use borrow.Author.Rules.{rules}
 use Rattle.laws.specs.Says.{Says}
 use Rattle.laws.proofs.Says.{says_is, says_lt, says_and, says_iff}
 use Rattle.asking.proofs.Asked.{then_asked, not_asked}

@@ -10,8 +10,8 @@ loop-s-preserved c = let sofar = c.loop-s.invariant.1 in
     let b = c.back-d.ensures in (
       omega arith,
       elim c.if-d-best.branch [
-        then-d-best w ↦ rw (w.best-is, w.at-is) (start_take b (omega (arith, w.if-d-best.true)) sofar)
-      | else-d-best w ↦ rw (w.best-is, w.at-is) (start_keep b (omega (arith, w.if-d-best.false)) sofar)
+        | then-d-best w ↦ rw (w.best-is, w.at-is) (start_take b (omega (arith, w.if-d-best.true)) sofar)
+        | else-d-best w ↦ rw (w.best-is, w.at-is) (start_keep b (omega (arith, w.if-d-best.false)) sofar)
       ],
     )
 
