@@ -1,5 +1,5 @@
 -- `completeness::least_lacking_by` meets its contract: no record below b lacks anything.
-use Prim.Native.Nat.{ℕ, ◌-◌, ◌<◌, ◌≤◌}
+use Prim.Native.Nat.{ℕ, ◌<◌, ◌≤◌}
 use Rattle.selections.specs.Selection.{named}
 use Rattle.model.specs.Table.{Table}
 use Rattle.edit.specs.Columns.{Judging}
@@ -8,6 +8,3 @@ use Rattle.edit.proofs.completeness.least_lacking_by.Given as goal
 
 abbrev pub invariant-loop-b : goal.invariant-loop-b
 invariant-loop-b l = (l.b ≤ l.n) × ((t : Table) → Judging t l.w l.n l.parent l.kind l.source l.place l.at l.hb l.race → (i : ℕ) → i < l.b → ¬ Lacking (named l.selection) t i)
-
-abbrev pub decreases-loop-b : goal.decreases-loop-b
-decreases-loop-b l = l.n - l.b

@@ -1,6 +1,6 @@
 -- `numbering::number` meets its contract: the first n records have their new numbers, none above n.
 use mathlib.Core.Path.{◌≡◌}
-use Prim.Native.Nat.{◌-◌, ◌≤◌}
+use Prim.Native.Nat.{◌≤◌}
 use lib.ListN.{length}
 use Rattle.selections.specs.Selection.{named}
 use Rattle.edit.specs.Columns.{Numbered}
@@ -8,6 +8,3 @@ use Rattle.edit.proofs.numbering.number.Given as goal
 
 abbrev pub invariant-loop-n : goal.invariant-loop-n
 invariant-loop-n l = (l.n ≤ l.count) × (length l.numbers ≡ length l.initial.numbers) × Numbered (named l.selection) l.n l.numbers l.next
-
-abbrev pub decreases-loop-n : goal.decreases-loop-n
-decreases-loop-n l = l.count - l.n

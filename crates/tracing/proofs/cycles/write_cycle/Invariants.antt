@@ -1,6 +1,6 @@
 -- `cycles::write_cycle` meets its contract: the first i records of the list are written, and what is least from the last makes the whole least.
 use mathlib.Core.Path.{◌≡◌}
-use Prim.Native.Nat.{◌+◌, ◌-◌, ◌<◌, ◌≤◌}
+use Prim.Native.Nat.{◌+◌, ◌<◌, ◌≤◌}
 use lib.ListN.{length}
 use Rattle.cycle.proofs.Writing.{Writing}
 use Rattle.table.specs.Events.{events_of}
@@ -10,6 +10,3 @@ use Rattle.tracing.proofs.cycles.write_cycle.Given as goal
 
 abbrev pub invariant-loop-i : goal.invariant-loop-i
 invariant-loop-i l = (1 ≤ l.i) × (l.i ≤ l.len) × (l.a < l.n) × (entry l.dist l.a + l.i ≡ l.len + 1) × (length l.out ≡ length l.initial.out) × Writing (step_of l.which (events_of l.table)) l.s l.len l.initial.out l.out l.a l.i
-
-abbrev pub decreases-loop-i : goal.decreases-loop-i
-decreases-loop-i l = l.len - l.i

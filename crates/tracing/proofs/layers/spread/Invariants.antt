@@ -1,10 +1,7 @@
 -- `layers::spread` meets its contract: the first x entries are looked at.
-use Prim.Native.Nat.{◌-◌, ◌≤◌}
+use Prim.Native.Nat.{◌≤◌}
 use Rattle.tracing.specs.Layers.{Spread}
 use Rattle.tracing.proofs.layers.spread.Given as goal
 
 abbrev pub invariant-loop-x : goal.invariant-loop-x
 invariant-loop-x l = (l.x ≤ l.n) × Spread l.x l.k l.col l.initial.dist l.dist
-
-abbrev pub decreases-loop-x : goal.decreases-loop-x
-decreases-loop-x l = l.n - l.x

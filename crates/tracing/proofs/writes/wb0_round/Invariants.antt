@@ -1,6 +1,6 @@
 -- `writes::wb0_round` meets its contract: the records before y have been asked.
 use mathlib.Core.Path.{◌≡◌}
-use Prim.Native.Nat.{◌-◌, ◌≤◌}
+use Prim.Native.Nat.{◌≤◌}
 use lib.ListN.{length}
 use Rattle.model.specs.Relations.{Wb0}
 use Rattle.table.specs.Events.{events_of}
@@ -9,6 +9,3 @@ use Rattle.tracing.proofs.writes.wb0_round.Given as goal
 
 abbrev pub invariant-loop-y : goal.invariant-loop-y
 invariant-loop-y l = (l.y ≤ l.n) × (length l.col ≡ length l.initial.col) × Round (Wb0 (events_of l.table)) l.n l.k 0 l.y l.initial.dist l.dist
-
-abbrev pub decreases-loop-y : goal.decreases-loop-y
-decreases-loop-y l = l.n - l.y
