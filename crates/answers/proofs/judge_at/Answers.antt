@@ -1,7 +1,6 @@
 -- `judge_at` meets its contract: the judge gets the table's part of the batch.
 use mathlib.Core.Path.{refl}
 use native.Mathlib.Omega.{arith}
-use borrow.Author.Rules.{rules}
 use Rattle.batches.proofs.Standing.{inside}
 use Rattle.batches.proofs.Unique.{table_stands, end_stands}
 use Rattle.answers.specs.Answer.{answered, ended}

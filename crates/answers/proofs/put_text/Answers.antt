@@ -1,6 +1,5 @@
 -- `put_text` meets its contract: there is room, so that the text is written.
 use native.Mathlib.Omega.{arith}
-use borrow.Author.Rules.{rules}
 use Rattle.answers.proofs.Placing.{never_refused, fits_there, put_there}
 use Rattle.answers.proofs.put_text.Goals as goal
 

@@ -1,7 +1,6 @@
 -- `write_answers` meets its contract: the texts are made aside, and copied if they have room.
 use mathlib.Core.Path.{sym}
 use native.Mathlib.Omega.{arith}
-use borrow.Author.Rules.{rules}
 use Rattle.answers.proofs.Copying.{texts_long, no_room_for, copied}
 use Rattle.answers.proofs.write_answers.Goals as goal
 

@@ -1,7 +1,6 @@
 -- `of_table` meets its contract: what the judge answers says the figures; its two buffers have the room it asks for.
 use mathlib.Core.Path.{sym, subst}
 use native.Mathlib.Omega.{arith}
-use borrow.Author.Rules.{rules}
 use Rattle.counting.specs.Counting.{FiguresOfOne}
 use Rattle.counting.proofs.Answering.{judged_figures}
 use Rattle.counting.proofs.of_table.Goals as goal

@@ -1,7 +1,6 @@
 -- `with_table` meets its contract: the sums of the figures and those of the table.
 use mathlib.Core.Path.{sym, ap, subst, ◌∙◌}
 use native.Mathlib.Omega.{arith}
-use borrow.Author.Rules.{rules}
 use Rattle.tally.specs.Sums.{sums, Small}
 use Rattle.tally.proofs.Laws.{figures_small}
 use Rattle.counting.proofs.with_table.Goals as goal

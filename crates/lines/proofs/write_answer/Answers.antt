@@ -1,6 +1,5 @@
 -- `write_answer` meets its contract: the text is made aside, and handed over.
 use mathlib.Core.Path.{sym}
-use borrow.Author.Rules.{rules}
 use Rattle.phrases.proofs.Handing.{front_long, writes_such}
 use Rattle.lines.specs.Answer.{TextOf}
 use Rattle.lines.proofs.write_answer.Goals as goal

@@ -3,7 +3,6 @@ use mathlib.Core.Path.{◌≡◌, refl, sym, ap, ◌∙◌}
 use mathlib.Core.Bool.{true, false}
 use Prim.Native.Nat.{ℕ}
 use native.Mathlib.Omega.{arith}
-use borrow.Author.Rules.{rules}
 use Rattle.batches.specs.declared.Item.{Item}
 use Rattle.batches.specs.Batch.{standing}
 use Rattle.batches.specs.Reading.{is_table}

@@ -1,14 +1,14 @@
 -- `found_lines` meets its contract: in the loop the lines of the findings before `place` stand.
 use mathlib.Core.Path.{◌≡◌, sym, ap, ◌∙◌}
 use mathlib.Core.List.{List}
-use Prim.Native.Nat.{ℕ, ◌-◌, ◌<◌, ◌≤◌}
+use Prim.Native.Nat.{ℕ, ◌<◌}
 use native.Mathlib.Omega.{arith}
-use lib.ListN.{length, take, get_or}
+use lib.ListN.{length, get_or}
 use Rattle.findings.specs.declared.Finding.{Finding}
 use Rattle.findings.specs.declared.Finding.TheVariants.{R}
 use Rattle.findings.specs.Family.{all_in_order, place_of, finding_at, name_of}
 use Rattle.findings.proofs.Family.{place_at}
-use Rattle.text.specs.Text.{Written, each, spaced}
+use Rattle.text.specs.Text.{spaced}
 use Rattle.text.proofs.Laws.{written_length, written_text, written_nothing, each_room, each_more}
 use Rattle.phrases.specs.Phrases.{line}
 use Rattle.sheet.specs.Sheet.{found_line}

@@ -1,7 +1,6 @@
 -- `put_counts` meets its contract: the line of the tables, then those of the refusals and of the findings.
 use mathlib.Core.List.{List}
 use Prim.Native.Nat.{ℕ}
-use borrow.Author.Rules.{rules}
 use Rattle.findings.specs.Family.{all_in_order}
 use Rattle.text.specs.Text.{each, spaced}
 use Rattle.phrases.specs.Phrases.{line}

@@ -1,6 +1,5 @@
 -- `put_early` meets its contract: the test is that of the text's definition.
 use mathlib.Core.Path.{sym, subst}
-use borrow.Author.Rules.{rules}
 use Rattle.text.proofs.Laws.{written_text, written_then}
 use Rattle.phrases.specs.Phrases.{refused_text}
 use Rattle.phrases.specs.Room.{Room}

@@ -1,7 +1,6 @@
 -- `put_figures` meets its contract: the counts, the verdicts, the largest.
 use mathlib.Core.List.{List}
 use Prim.Native.Nat.{ℕ}
-use borrow.Author.Rules.{rules}
 use Rattle.text.specs.Text.{spaced}
 use Rattle.phrases.specs.Phrases.{line}
 use Rattle.phrases.proofs.Pieces.{first_room, second_room, third_room, all_three}

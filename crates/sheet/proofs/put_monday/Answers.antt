@@ -1,5 +1,4 @@
 -- `put_monday` meets its contract: the text of the figures has room.
-use borrow.Author.Rules.{rules}
 use Rattle.phrases.proofs.Handing.{front_there}
 use Rattle.sheet.specs.Answer.{SheetOf}
 use Rattle.sheet.proofs.Telling.{told_sheet, sheet_room}

@@ -2,7 +2,6 @@
 use mathlib.Core.Path.{sym, ap}
 use mathlib.Core.List.{List}
 use Prim.Native.Nat.{ℕ}
-use borrow.Author.Rules.{rules}
 use Rattle.refusals.specs.declared.Told.{Told}
 use Rattle.batches.specs.declared.Ending.{Ending}
 use Rattle.batches.specs.Batch.{refused, end_of}

@@ -1,14 +1,8 @@
 -- `refused_lines` meets its contract: in the loop the lines of the numbers below `place + 1` stand.
-use mathlib.Core.Path.{◌≡◌, sym, ap}
-use mathlib.Core.List.{List, ◌++◌}
-use Prim.Native.Nat.{ℕ, ◌+◌, ◌-◌, ◌≤◌}
-use native.Mathlib.Omega.{arith}
-use lib.ListN.{length, take, get_or}
-use Rattle.text.specs.Text.{Written, each, spaced}
-use Rattle.text.proofs.Laws.{written_length, written_text, written_nothing, each_room, each_more}
-use Rattle.phrases.specs.Phrases.{line, refused_word}
+use Prim.Native.Nat.{◌-◌, ◌≤◌}
+use lib.ListN.{length, take}
+use Rattle.text.specs.Text.{Written, each}
 use Rattle.tally.specs.Figures.{numbers}
-use Rattle.tally.proofs.Laws.{number_at}
 use Rattle.sheet.specs.Sheet.{refused_line}
 use Rattle.sheet.proofs.refused_lines.Given as goal
 

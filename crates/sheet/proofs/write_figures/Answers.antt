@@ -1,6 +1,5 @@
 -- `write_figures` meets its contract: the text is made aside, and handed over.
 use mathlib.Core.Path.{sym}
-use borrow.Author.Rules.{rules}
 use Rattle.phrases.proofs.Handing.{front_long, writes_such}
 use Rattle.sheet.specs.Answer.{SheetOf}
 use Rattle.sheet.proofs.write_figures.Goals as goal
