@@ -1,4 +1,4 @@
--- What a caller from C is told: what `write_answer` gives, its length as a number, and 0 for a refusal.
+-- What a caller from C is told: what `write_answer` gives, the length of the answer as a number, and 0 where it has no room.
 use Rattle.std.specs.Prelude.{List, ℕ, ◌≡◌}
 use Rattle.phrases.specs.declared.Wrote.{Wrote}
 use Rattle.phrases.specs.declared.Wrote.TheVariants.{Refused, Length}
