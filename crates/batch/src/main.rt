@@ -8,10 +8,10 @@ ghost use Rattle.lines.specs.Judged.{judged_text, JudgedWhole};
 use answers::{Step, judge_at};
 use anyhow::{Context, Result};
 use batches::{Ending, MOST};
+use input::read_full;
 use judge::Judged;
 use limits::LIMIT;
 use lines::{TEXT, put_judged};
-use std::io::Read;
 
 // One byte more than a batch may have: a longer input is refused by what is read of it.
 const READ: usize = MOST + 1;
@@ -54,8 +54,7 @@ fn answer(rt: &impl Print, batch: &[u8]) -> Result<()> {
 }
 
 fn main(rt: HostRuntime) -> Result<()> {
-    let mut batch = Vec::new(rt.alloc());
-    let mut input = rt.stdin().take(READ as u64);
-    input.read_to_end(&mut batch).context("input")?;
-    answer(&rt, &batch)
+    let mut batch = [0u8; READ];
+    let len = read_full(&mut rt.stdin(), &mut batch).context("input")?;
+    answer(&rt, &batch[..len])
 }

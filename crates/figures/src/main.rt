@@ -5,9 +5,9 @@ ghost use Rattle.std.specs.Prelude.{◌≤◌, length};
 
 use anyhow::{Context, Result, bail};
 use batches::MOST;
+use input::read_full;
 use phrases::Wrote;
 use sheet::{SHEET, write_figures};
-use std::io::Read;
 
 // One byte more than a batch may have: a longer input is refused by what is read of it.
 const READ: usize = MOST + 1;
@@ -28,8 +28,7 @@ fn answer(rt: &impl Print, batch: &[u8]) -> Result<()> {
 }
 
 fn main(rt: HostRuntime) -> Result<()> {
-    let mut batch = Vec::new(rt.alloc());
-    let mut input = rt.stdin().take(READ as u64);
-    input.read_to_end(&mut batch).context("input")?;
-    answer(&rt, &batch)
+    let mut batch = [0u8; READ];
+    let len = read_full(&mut rt.stdin(), &mut batch).context("input")?;
+    answer(&rt, &batch[..len])
 }

@@ -4,11 +4,11 @@
 ghost use Rattle.std.specs.Prelude.{◌≤◌, length};
 
 use anyhow::{Context, Result, bail};
+use input::read_full;
 use limits::LIMIT;
 use lines::{TEXT, write_answer};
 use phrases::Wrote;
 use record::places::SIZE;
-use std::io::Read;
 
 // One record more than a table may have: a longer input is refused by what is read of it.
 const MOST: usize = SIZE * LIMIT + SIZE;
@@ -29,8 +29,7 @@ fn answer(rt: &impl Print, table: &[u8]) -> Result<()> {
 }
 
 fn main(rt: HostRuntime) -> Result<()> {
-    let mut table = Vec::new(rt.alloc());
-    let mut input = rt.stdin().take(MOST as u64);
-    input.read_to_end(&mut table).context("input")?;
-    answer(&rt, &table)
+    let mut table = [0u8; MOST];
+    let len = read_full(&mut rt.stdin(), &mut table).context("input")?;
+    answer(&rt, &table[..len])
 }

@@ -4,10 +4,10 @@
 ghost use Rattle.std.specs.Prelude.{◌≤◌, length};
 
 use anyhow::{Context, Result, bail};
+use input::read_full;
 use lines::TEXT;
 use opinion::{MOST, write_opinion};
 use phrases::Wrote;
-use std::io::Read;
 
 // One byte more than is judged: a longer input is too large by what is read of it.
 const READ: usize = MOST + 1;
@@ -28,8 +28,7 @@ fn answer(rt: &impl Print, input: &[u8]) -> Result<()> {
 }
 
 fn main(rt: HostRuntime) -> Result<()> {
-    let mut input = Vec::new(rt.alloc());
-    let mut front = rt.stdin().take(READ as u64);
-    front.read_to_end(&mut input).context("input")?;
-    answer(&rt, &input)
+    let mut input = [0u8; READ];
+    let len = read_full(&mut rt.stdin(), &mut input).context("input")?;
+    answer(&rt, &input[..len])
 }

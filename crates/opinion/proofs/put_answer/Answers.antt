@@ -1,6 +1,5 @@
 -- `put_answer` meets its contract: the text of what was judged has room.
 use native.Mathlib.Omega.{arith}
-use borrow.Author.Rules.{rules}
 use Rattle.lines.proofs.Answering.{text_room, text_at}
 use Rattle.lines.proofs.Telling.{judged_there}
 use Rattle.opinion.proofs.put_answer.Goals as goal

@@ -1,6 +1,5 @@
 -- `put_opinion` meets its contract: the length decides, and either text has room.
 use native.Mathlib.Omega.{arith}
-use borrow.Author.Rules.{rules}
 use Rattle.phrases.proofs.Handing.{front_there}
 use Rattle.opinion.specs.Opinion.{OpinionOf, too_large, answered}
 use Rattle.opinion.proofs.Unique.{front_as}

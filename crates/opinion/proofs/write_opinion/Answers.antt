@@ -1,6 +1,5 @@
 -- `write_opinion` meets its contract: the text is made aside, and handed over.
 use mathlib.Core.Path.{sym}
-use borrow.Author.Rules.{rules}
 use Rattle.opinion.specs.Opinion.{OpinionOf}
 use Rattle.phrases.proofs.Handing.{front_long, writes_such}
 use Rattle.opinion.proofs.write_opinion.Goals as goal
