@@ -8,8 +8,8 @@ A loop at a function's begin, with only saved registers before it, is safe. Each
 """
 import re, struct, sys
 
-# sub $4096,%rsp; movq $0,(%rsp); cmp %r11,%rsp; jne back
-LOOP = re.compile(rb"\x48\x81\xec\x00\x10\x00\x00\x48\xc7\x04\x24\x00\x00\x00\x00\x4c\x39\xdc\x75")
+# sub $3072,%rsp (today's Rattle) or $4096; movq $0,(%rsp); cmp %r11,%rsp; jne back
+LOOP = re.compile(rb"\x48\x81\xec\x00[\x0c\x10]\x00\x00\x48\xc7\x04\x24\x00\x00\x00\x00\x4c\x39\xdc\x75", re.S)
 # registers pushed, then mov %rsp,%r11; sub $SIZE,%r11
 BEGIN = re.compile(rb"(?:[\x50-\x57]|\x41[\x50-\x57])*\x49\x89\xe3\x49\x81\xeb....", re.S)
 
@@ -38,7 +38,7 @@ def code_sections(data):
 
 
 # The two kinds, as they were seen: a frame made first, and one made after `mov 8(%rsi),%r11`.
-FRAME = bytes.fromhex("55 41 57 53 49 89 e3 49 81 eb 00 b0 00 00 48 81 ec 00 10 00 00 48 c7 04 24 00 00 00 00 4c 39 dc 75 ec")
+FRAME = bytes.fromhex("55 41 57 53 49 89 e3 49 81 eb 00 b0 00 00 48 81 ec 00 0c 00 00 48 c7 04 24 00 00 00 00 4c 39 dc 75 ec")
 if frames(FRAME) != [(False, 0xB000)] or frames(bytes.fromhex("4c 8b 5e 08") + FRAME) != [(True, 0xB000)]:
     sys.exit("stack_probes: it can't tell the two kinds of frames apart")
 
