@@ -1,10 +1,10 @@
 #!/usr/bin/env python3
-"""stack_probes.py OBJECT ..: no function of these objects makes its stack frame after other code, and the large frames of one are
+"""stack_probes.py PROGRAM ..: no function of these programs makes its stack frame after other code, and the large frames of one are
 two megabytes at most, all together (W5: what a judging may need of the stack; no function with a large frame calls itself).
 
 The compiler's back end (LLVM 22) reserves a large frame by a loop that overwrites register r11, and where a function can answer
 before it needs its frame, it may put that loop after code that keeps a value in r11: the value is lost (docs/DECISIONS.md, 37).
-A loop at a function's begin, with only saved registers before it, is safe. Each function has a section of its own.
+A loop at a function's begin, with only saved registers before it, is safe. The table of symbols tells where each function begins.
 """
 import re, struct, sys
 
@@ -23,18 +23,22 @@ def frames(code):
             for loop in LOOP.finditer(code)]
 
 
-def code_sections(data):
-    """(name, bytes) of every section that holds code, of an ELF object for x86-64."""
+def functions(data):
+    """(name, bytes) of every function, of an ELF program for x86-64."""
     if data[:6] != b"\x7fELF\x02\x01" or data[0x12:0x14] != b"\x3e\x00":
-        sys.exit("stack_probes: not an ELF object for x86-64")
+        sys.exit("stack_probes: not an ELF program for x86-64")
     table, = struct.unpack_from("<Q", data, 0x28)
-    size, count, names = struct.unpack_from("<HHH", data, 0x3A)
+    size, count, _ = struct.unpack_from("<HHH", data, 0x3A)
     heads = [struct.unpack_from("<IIQQQQIIQQ", data, table + i * size) for i in range(count)]
-    strings = heads[names][4]
-    for name, kind, flags, _, offset, length, *_ in heads:
-        if kind == 1 and flags & 4:
-            end = data.index(b"\0", strings + name)
-            yield data[strings + name:end].decode(), data[offset:offset + length]
+    for _, kind, _, _, offset, length, link, *_ in heads:
+        if kind != 2:
+            continue
+        for at in range(offset, offset + length, 24):
+            name, info, _, section, value, bytes_long = struct.unpack_from("<IBBHQQ", data, at)
+            if info & 15 == 2 and 0 < section < count:
+                start = heads[section][4] + value - heads[section][3]
+                strings = heads[link][4] + name
+                yield data[strings:data.index(b"\0", strings)].decode(), data[start:start + bytes_long]
 
 
 # The two kinds, as they were seen: a frame made first, and one made after `mov 8(%rsi),%r11`.
@@ -46,15 +50,15 @@ found = late = most = 0
 for path in sys.argv[1:]:
     whole = 0
     with open(path, "rb") as file:
-        for name, code in code_sections(file.read()):
+        for name, code in functions(file.read()):
             for is_late, size in frames(code):
                 found += 1
                 late += is_late
                 whole += size
                 if is_late:
-                    print(f"{path}: {name.removeprefix('.text.')} makes its frame after other code")
+                    print(f"{path}: {name} makes its frame after other code")
     if whole > MOST:
         print(f"{path}: its large frames are {whole} bytes together")
     most = max(most, whole)
-print(f"{len(sys.argv) - 1} objects, {found} large frames, {late} made after other code, {most} bytes in one object at most")
+print(f"{len(sys.argv) - 1} programs, {found} large frames, {late} made after other code, {most} bytes in one program at most")
 sys.exit(1 if late or most > MOST or not found else 0)
