@@ -1,4 +1,4 @@
-//! agree COUNT NAME=OBJECT..: ends with 1 where a judge gives another text than the second judge, and where a finding, a
+//! agree COUNT NAME=OBJECT..: (OBJECT: a shared object, or a program) ends with 1 where a judge gives another text than the second judge, and where a finding, a
 //! verdict or a refusal was never met.
 
 use bench::agreement::Agreement;
