@@ -6,10 +6,10 @@ use native.Mathlib.Nat.{zero-add}
 use native.Mathlib.Omega.{arith}
 use lib.ListN.{length, take, drop}
 use lib.Seq.{length-take-le}
+use Rattle.std.proofs.Common.{Ok, Err}
 use Rattle.refusals.specs.declared.Refusal.TheVariants.{Room}
 use Rattle.text.specs.Text.{Written}
 use Rattle.answers.specs.declared.Answers.{Answers}
-use Rattle.answers.specs.declared.Run.TheVariants.{Refused, Done}
 use Rattle.answers.specs.Answer.{all_texts, RunAnswer, no_room, written}
 use Rattle.answers.specs.Room.{TextsAt}
 
@@ -20,10 +20,10 @@ module _ {b text : List ℕ} {x : Answers} (at : TextsAt b text x) where
   long : x.bytes ≡ length (all_texts at.texts)
   long = sym texts_long ∙ ap length at.front
 
-  pub no_room_for : (before : List ℕ) → length before < x.bytes → RunAnswer b before before (Refused Room)
+  pub no_room_for : (before : List ℕ) → length before < x.bytes → RunAnswer b before before (Err Room)
   no_room_for before h = no_room at.answers (omega (arith, long)) refl refl
 
-  pub copied : (before : List ℕ) → x.bytes ≤ length before → {after : List ℕ} {r : ℕ} → Written before 0 (take x.bytes text) after r → RunAnswer b before after (Done x)
+  pub copied : (before : List ℕ) → x.bytes ≤ length before → {after : List ℕ} {r : ℕ} → Written before 0 (take x.bytes text) after r → RunAnswer b before after (Ok x)
   copied before h w =
       written at.answers at.tables long h
       (w.holds

@@ -5,13 +5,13 @@ use Prim.Native.Nat.{ℕ, ◌-◌, ◌*◌, ◌≤◌}
 use native.Mathlib.Omega.{arith}
 use lib.ListN.{length, drop, length-append, length-drop}
 use lib.Seq.{length-take-le}
+use Rattle.std.proofs.Common.{Err}
 use Rattle.refusals.specs.declared.Refusal.{Refusal}
 use Rattle.batches.specs.Batch.{End, table, stands_at, part, HoldsFrom, no_more, one_more}
 use Rattle.batches.specs.Answers.{Each, none_left, and_then, AnswersOf}
 use Rattle.batches.proofs.Standing.{inside}
 use Rattle.lines.specs.Answer.{TextOf}
 use Rattle.lines.proofs.Answering.{text_within}
-use Rattle.answers.specs.declared.Run.TheVariants as run
 use Rattle.answers.specs.Answer.{all_texts, RunAnswer, no_room}
 
 -- the part that is a table is as long as it says
@@ -39,5 +39,5 @@ pub texts_within : {b : List ℕ} {texts : List (List ℕ)} {e : End} → Answer
 texts_within {b} p = omega (arith, within_from b p.holds.all p.each)
 
 -- such an output is never refused
-pub never_short : {A : Type 0} {b before after : List ℕ} {r : Refusal} → 6 * length b ≤ length before → RunAnswer b before after (run.Refused r) → A
+pub never_short : {A : Type 0} {b before after : List ℕ} {r : Refusal} → 6 * length b ≤ length before → RunAnswer b before after (Err r) → A
 never_short {b = b} room (no_room p h _ _) = absurd (omega (arith, texts_within p))

@@ -5,9 +5,8 @@ use Prim.Native.Nat.{ℕ, ◌+◌, ◌-◌, ◌*◌, ◌≤◌}
 use native.Mathlib.Omega.{arith}
 use lib.ListN.{length, take, drop, length-drop, drop_of_length-le}
 use lib.Seq.{drop-drop, take-length}
+use Rattle.std.proofs.Common.{Result, Ok, Err}
 use Rattle.refusals.specs.declared.Refusal.{Refusal}
-use Rattle.phrases.specs.declared.Wrote.{Wrote}
-use Rattle.phrases.specs.declared.Wrote.TheVariants.{Refused, Length}
 use Rattle.phrases.specs.Handed.{Writes}
 use Rattle.lines.specs.Answer.{WriteAnswer}
 use Rattle.lines.proofs.Answering.{text_within}
@@ -22,24 +21,24 @@ module _ (b before : List ℕ) (at : ℕ) (room : at + (24 + 6 * length b) ≤ l
   all_of_it = ap (λ (n : ℕ). take n (drop at before)) (sym (length-drop at before)) ∙ take-length (drop at before)
 
   -- there is room, so that it is not refused
-  pub never_refused : {A : Type 0} {after : List ℕ} {x : Wrote} {r : Refusal} → WriteAnswer b (rest before at) after x → x ≡ Refused r → A
+  pub never_refused : {A : Type 0} {after : List ℕ} {x : Result ℕ Refusal} {r : Refusal} → WriteAnswer b (rest before at) after x → x ≡ Err r → A
   never_refused {after = after} {r = r} w is = go (subst (WriteAnswer b (rest before at) after) is w)
     where
-      go : {A : Type 0} → WriteAnswer b (rest before at) after (Refused r) → A
+      go : {A : Type 0} → WriteAnswer b (rest before at) after (Err r) → A
       go (Writes.no_room t h _ _) = absurd (omega (arith, text_within t, ap length all_of_it, length-drop at before))
 
-  pub fits_there : {after : List ℕ} {x : Wrote} {len : ℕ} → WriteAnswer b (rest before at) after x → x ≡ Length len → at + len ≤ length before
+  pub fits_there : {after : List ℕ} {x : Result ℕ Refusal} {len : ℕ} → WriteAnswer b (rest before at) after x → x ≡ Ok len → at + len ≤ length before
   fits_there {after} {len = len} w is = go (subst (WriteAnswer b (rest before at) after) is w)
     where
-      go : WriteAnswer b (rest before at) after (Length len) → at + len ≤ length before
+      go : WriteAnswer b (rest before at) after (Ok len) → at + len ≤ length before
       go (Writes.written _ _ h _) = omega (arith, ap length all_of_it, length-drop at before)
 
   pub put_there :
-      {after : List ℕ} {x : Wrote} {len : ℕ} → WriteAnswer b (rest before at) after x → x ≡ Length len
+      {after : List ℕ} {x : Result ℕ Refusal} {len : ℕ} → WriteAnswer b (rest before at) after x → x ≡ Ok len
       → TextPut b before at (take at before ++ (after ++ drop (length before - at) (drop at before))) (at + len)
   put_there {after} {len = len} w is = go (subst (WriteAnswer b (rest before at) after) is w)
     where
-      go : WriteAnswer b (rest before at) after (Length len) → TextPut b before at (take at before ++ (after ++ drop (length before - at) (drop at before))) (at + len)
+      go : WriteAnswer b (rest before at) after (Ok len) → TextPut b before at (take at before ++ (after ++ drop (length before - at) (drop at before))) (at + len)
       go (Writes.written {text = text} t long h e) = record {
         text = text;
         is = t;

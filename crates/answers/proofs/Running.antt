@@ -6,7 +6,8 @@ use native.Mathlib.Nat.{zero-add}
 use native.Mathlib.Omega.{arith}
 use lib.ListN.{length, take, drop, length-append}
 use lib.Seq.{take_at}
-use Rattle.batches.specs.declared.Ending.{Ending}
+use Rattle.std.proofs.Common.{Result}
+use Rattle.refusals.specs.declared.Refusal.{Refusal}
 use Rattle.batches.specs.Batch.{most, table, end, stands_at, part, end_of}
 use Rattle.batches.specs.Answers.{Each, none_left}
 use Rattle.batches.proofs.Standing.{inside}
@@ -99,7 +100,7 @@ module _ (b before : List ℕ) where
                 so_far.written.next,
               )
 
-    pub along_all : {e : Ending} → stands_at b place ≡ end (end_of e) → TextsAt b out (record { tables = tables; bytes = bytes; ending = e })
+    pub along_all : {e : Result (Unit {0}) Refusal} → stands_at b place ≡ end (end_of e) → TextsAt b out (record { tables = tables; bytes = bytes; ending = e })
     along_all is = record {
       texts = so_far.texts;
       answers = record { tables = so_far.list; holds = passed_all b place so_far.passed is; each = so_far.each };

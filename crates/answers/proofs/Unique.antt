@@ -4,6 +4,8 @@ use mathlib.Core.List.{List, ◌++◌}
 use Prim.Native.Nat.{ℕ}
 use native.Mathlib.Omega.{arith}
 use lib.ListN.{length, drop}
+use Rattle.std.proofs.Common.{Result, Ok, Err}
+use Rattle.refusals.specs.declared.Refusal.{Refusal}
 use Rattle.refusals.proofs.Known.{same_refusal}
 use Rattle.batches.specs.Batch.{End, table, end, part, end_of}
 use Rattle.batches.specs.Answers.{AnswersOf}
@@ -16,8 +18,7 @@ use Rattle.lines.specs.Answer.{TextOf}
 use Rattle.lines.proofs.Unique.{text_one}
 use Rattle.answers.specs.declared.Step.{Step}
 use Rattle.answers.specs.declared.Step.TheVariants as step
-use Rattle.answers.specs.declared.Run.{Run}
-use Rattle.answers.specs.declared.Run.TheVariants as run
+use Rattle.answers.specs.declared.Answers.{Answers}
 use Rattle.answers.specs.Answer.{all_texts, StepAnswer, answered, ended, RunAnswer, no_room, written}
 
 -- ---- a step
@@ -47,7 +48,7 @@ step_one b place (ended {e = e} p f s) (ended {e = e'} q f' s') =
 -- ---- the run
 
 -- the same answer, and the same bytes
-pub record SameRun (x y : Run) (after after' : List ℕ) : Type 0 where
+pub record SameRun (x y : Result Answers Refusal) (after after' : List ℕ) : Type 0 where
   pub result : x ≡ y
   pub bytes : after ≡ after'
 
@@ -55,8 +56,8 @@ module _ {b : List ℕ} where
   texts_one : {xs ys : List (List ℕ)} {e f : End} → AnswersOf TextOf b xs e → AnswersOf TextOf b ys f → SameAnswers xs ys e f
   texts_one p q = answers_one TextOf (λ t x y. text_one) p q
 
-  pub run_one : {before after after' : List ℕ} {x y : Run} → RunAnswer b before after x → RunAnswer b before after' y → SameRun x y after after'
-  run_one (no_room _ _ r e) (no_room _ _ r' e') = record { result = ap run.Refused (same_refusal r r'); bytes = e ∙ sym e' }
+  pub run_one : {before after after' : List ℕ} {x y : Result Answers Refusal} → RunAnswer b before after x → RunAnswer b before after' y → SameRun x y after after'
+  run_one (no_room _ _ r e) (no_room _ _ r' e') = record { result = ap Err (same_refusal r r'); bytes = e ∙ sym e' }
   run_one (no_room p h _ _) (written q _ len k _) = absurd (omega (arith, ap (λ (l : List (List ℕ)). length (all_texts l)) (texts_one p q).answers))
   run_one (written q _ len k _) (no_room p h _ _) = absurd (omega (arith, ap (λ (l : List (List ℕ)). length (all_texts l)) (texts_one p q).answers))
   run_one {before} (written {x = x} p count len k e) (written {x = y} q count' len' k' e') =
@@ -65,6 +66,6 @@ module _ {b : List ℕ} where
       let bytes : x.bytes ≡ y.bytes = len ∙ ap (λ (l : List (List ℕ)). length (all_texts l)) same.answers ∙ sym len' in
       let ending : x.ending ≡ y.ending = ending_one x.ending y.ending same.ending in
       record {
-        result = λ i. run.Done (record { tables = tables i; bytes = bytes i; ending = ending i });
+        result = λ i. Ok (record { tables = tables i; bytes = bytes i; ending = ending i });
         bytes = e ∙ ap₂ (λ (l : List (List ℕ)) (n : ℕ). all_texts l ++ drop n before) same.answers bytes ∙ sym e';
       }

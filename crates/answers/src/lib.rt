@@ -5,18 +5,18 @@ ghost use Rattle.std.specs.Prelude.{◌+◌, ◌*◌, ◌≤◌, length};
 ghost use Rattle.answers.specs.Answer.{StepAnswer, RunAnswer};
 ghost use Rattle.answers.specs.Room.{enough, TextPut, TextsAt};
 
-use batches::{Ending, Item, MOST, item_at};
-use judge::{Judged, judge};
+use batches::{Item, MOST, item_at};
+use judge::{Report, judge};
 use lines::write_answer;
-use phrases::Wrote;
 use refusals::Refusal;
 use text::put;
 
-// What a step gives: the answer of a table and where the next begins, or how the batch ended.
+// What a step gives: the answer of a table and where the next begins, or how the batch ended. Both are answers to what was asked, so that neither is the
+// error of a `Result`.
 #[derive(Drop)]
 pub enum Step {
-    Ended(Ending),
-    Answered(Judged, usize),
+    Ended(Result<(), Refusal>),
+    Answered(Result<Report, Refusal>, usize),
 }
 
 // What is told of a batch whose answers were written: how many tables, how many bytes, how it ended.
@@ -24,14 +24,7 @@ pub enum Step {
 pub struct Answers {
     pub tables: usize,
     pub bytes: usize,
-    pub ending: Ending,
-}
-
-// What the run over a batch gives; only an output that is too short refuses it.
-#[derive(Drop)]
-pub enum Run {
-    Refused(Refusal),
-    Done(Answers),
+    pub ending: Result<(), Refusal>,
 }
 
 // Judges the table at a place of the batch: "handed on as a part of the batch from its middle".
@@ -51,8 +44,8 @@ fn put_text(table: &[u8], out: &mut [u8], at: usize) -> usize
 {
     let end = out.len();
     match write_answer(table, &mut out[at..end]) {
-        Wrote::Length(len) => at + len,
-        Wrote::Refused(_) => at,
+        Ok(len) => at + len,
+        Err(_) => at,
     }
 }
 
@@ -85,15 +78,15 @@ fn put_texts(batch: &[u8], out: &mut [u8]) -> Answers
 // Room for the texts of every batch: `enough` of the definitions.
 pub const ENOUGH: usize = 6 * MOST;
 
-// The night run, in one call: writes every answer's text, one after another.
-pub fn write_answers(batch: &[u8], out: &mut [u8]) -> Run
+// The night run, in one call: writes every answer's text, one after another. Only an output that is too short refuses it.
+pub fn write_answers(batch: &[u8], out: &mut [u8]) -> Result<Answers, Refusal>
     ensures { RunAnswer batch.now out.old out.new result }
 {
     let mut text = [0u8; ENOUGH];
     let answers = put_texts(batch, &mut text);
     if out.len() < answers.bytes {
-        return Run::Refused(Refusal::Room);
+        return Err(Refusal::Room);
     }
     put(out, 0, &text[..answers.bytes]);
-    Run::Done(answers)
+    Ok(answers)
 }

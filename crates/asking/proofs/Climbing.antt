@@ -1,13 +1,12 @@
 -- Climbing from b for something that has P: at b, or on from its parent. Conflict is two such climbs.
+use Rattle.std.specs.Prelude.{Option, None, Some}
 use mathlib.Core.Path.{◌≡◌, refl, sym, subst, ◌∙◌}
 use mathlib.Core.Logic.{◌⊎◌, inl, inr, ⊎_elim}
 use mathlib.Core.Bool.{Bool, true, false}
 use Prim.Native.Nat.{ℕ}
-use Rattle.events.specs.declared.Link.{Link}
-use Rattle.events.specs.declared.Link.TheVariants.{Absent, To}
 use Rattle.laws.specs.Says.{Says}
 use Rattle.laws.specs.Steps.{one, more}
-use Rattle.laws.proofs.Says.{says_yes, says_no, says_iff}
+use Rattle.laws.proofs.Says.{said, denied, says_no, says_iff}
 use Rattle.model.specs.Table.{Table, Inside, Parent}
 use Rattle.model.specs.Relations.{AtOrAbove, equal, above, Conflict}
 use Rattle.model.specs.WellFormed.{WellFormed}
@@ -37,18 +36,19 @@ module _ {t : Table} (ok : WellFormed t) where
     by_case z =
         ⊎_elim (λ e. inl (subst P e z.has)) (λ u. inr (u.p, (u.parent, record { at = z.at; above = u.rest; has = z.has }))) (up z.above)
 
-    pub climb_here : Inside t b → P b → Says true (Above t P b)
-    climb_here h p = says_yes (record { at = b; above = equal h; has = p })
+    module _ {here : Bool} (says : Says here (P b)) where
+      pub climb_here : Inside t b → here ≡ true → Says here (Above t P b)
+      climb_here h e = says_iff (λ p. record { at = b; above = equal h; has = p }) (λ _. said says e) says
 
-    module _ (n : ¬ P b) {link : Link} (is : link ≡ (t.at b).parent) where
-      pub climb_ends : link ≡ Absent → Says false (Above t P b)
-      climb_ends e = says_no (λ z. ⊎_elim n (λ (p, (f, y)). absent_to e (is ∙ f)) (by_case z))
+      module _ (e : here ≡ false) {link : Option ℕ} (is : link ≡ (t.at b).parent) where
+        pub climb_ends : link ≡ None → Says false (Above t P b)
+        climb_ends q = says_no (λ z. ⊎_elim (denied says e) (λ (p, (f, y)). absent_to q (is ∙ f)) (by_case z))
 
-      pub climb_on : {p : ℕ} {r : Bool} → link ≡ To p → Says r (Above t P p) → Says r (Above t P b)
-      climb_on {p} e =
-          let f : Parent t p b = sym is ∙ e in
-          says_iff (λ z. record { at = z.at; above = down f z.above; has = z.has })
-          (λ z. ⊎_elim (λ h. absurd (n h)) (λ (q, (g, y)). subst (Above t P) (one_parent t q p b g f) y) (by_case z))
+        pub climb_on : {p : ℕ} {r : Bool} → link ≡ Some p → Says r (Above t P p) → Says r (Above t P b)
+        climb_on {p} q =
+            let f : Parent t p b = sym is ∙ q in
+            says_iff (λ z. record { at = z.at; above = down f z.above; has = z.has })
+            (λ z. ⊎_elim (λ h. absurd (denied says e h)) (λ (x, (g, y)). subst (Above t P) (one_parent t x p b g f) y) (by_case z))
 
 -- a climbs, and at each record b climbs anew
 module _ {t : Table} {a b : ℕ} {r : Bool} where

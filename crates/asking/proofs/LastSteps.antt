@@ -1,15 +1,14 @@
 -- A last step of either kind, by the link that leads to it: one law for both questions.
+use Rattle.std.specs.Prelude.{Option, Some}
 use mathlib.Core.Path.{◌≡◌, sym, subst}
 use mathlib.Core.Logic.{◌⊎◌, inl, inr, ⊎_elim}
-use mathlib.Core.Bool.{Bool, true, false}
+use mathlib.Core.Bool.{Bool, false}
 use Prim.Native.Nat.{ℕ, ◌<◌, ◌≤◌}
 use native.Mathlib.Omega.{arith}
 use lib.Dec.{eqb}
-use Rattle.events.specs.declared.Link.{Link}
-use Rattle.events.specs.declared.Link.TheVariants.{To}
 use Rattle.laws.specs.Says.{Says}
 use Rattle.laws.specs.Steps.{more}
-use Rattle.laws.proofs.Says.{says_yes, says_no, says_eq, says_iff, said, denied}
+use Rattle.laws.proofs.Says.{says_no, says_eq, says_iff}
 use Rattle.laws.proofs.Steps.{plus_last}
 use Rattle.model.specs.Table.{Table}
 use Rattle.model.specs.Relations.{Po, by_po, Hb}
@@ -22,23 +21,19 @@ use Rattle.asking.specs.LastStep.{LastBy, ByPo, BySw}
 
 -- hb is a last step of po or one of sw
 module _ {t : Table} {a b : ℕ} where
-  pub po_hb : ByPo t a b → Hb t a b
+  po_hb : ByPo t a b → Hb t a b
   po_hb l = hb_iff_last.1 (record { from = l.from; step = inl l.step; rest = l.rest })
 
-  pub sw_hb : BySw t a b → Hb t a b
+  sw_hb : BySw t a b → Hb t a b
   sw_hb l = hb_iff_last.1 (record { from = l.from; step = inr l.step; rest = l.rest })
 
-  pub hb_last : Hb t a b → ByPo t a b ⊎ BySw t a b
+  hb_last : Hb t a b → ByPo t a b ⊎ BySw t a b
   hb_last h =
       let l = (hb_iff_last {t = t}).0 h in
       ⊎_elim (λ e. inl (record { from = l.from; step = e; rest = l.rest })) (λ s. inr (record { from = l.from; step = s; rest = l.rest })) l.step
 
-  -- the one question answered yes; it answered no, and the other decides
-  pub hb_by_po : {r : Bool} → Says r (ByPo t a b) → r ≡ true → Says true (Hb t a b)
-  hb_by_po s e = says_yes (po_hb (said s e))
-
-  pub hb_by_sw : {r q : Bool} → Says r (ByPo t a b) → r ≡ false → Says q (BySw t a b) → Says q (Hb t a b)
-  hb_by_sw s e = says_iff sw_hb (λ h. ⊎_elim (λ p. absurd (denied s e p)) (λ w. w) (hb_last h))
+  pub says_hb : {r : Bool} → Says r (ByPo t a b ⊎ BySw t a b) → Says r (Hb t a b)
+  says_hb = says_iff (⊎_elim po_hb sw_hb) hb_last
 
 -- what happens before a record above b happens before the parent of b
 by_parent : {t : Table} {a s b : ℕ} → Hb t a s → Po t s b → ByPo t a b
@@ -47,8 +42,8 @@ by_parent {t} {a} u up =
     record { from = l.from; step = l.step; rest = inr (⊎_elim (λ e. subst (Hb t a) e u) (λ p. more u (by_po p)) l.rest) }
 
 -- what steps to b by S is what the link leads to
-module _ {t : Table} {S : ℕ → ℕ → Type 0} {a b : ℕ} {link : Link} (leads : Leads link (λ s. S s b)) where
-  module _ {s : ℕ} (e : link ≡ To s) where
+module _ {t : Table} {S : ℕ → ℕ → Type 0} {a b : ℕ} {link : Option ℕ} (leads : Leads link (λ s. S s b)) where
+  module _ {s : ℕ} (e : link ≡ Some s) where
     rest_of : LastBy t S a b → (a ≡ s) ⊎ Hb t a s
     rest_of l = subst (λ (x : ℕ). (a ≡ x) ⊎ Hb t a x) (one_end e (leads.only l.from l.step)) l.rest
 

@@ -2,3 +2,4 @@
 pub mod Asked
 pub mod LastSteps
 pub mod Climbing
+pub mod Chains

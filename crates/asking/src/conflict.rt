@@ -6,7 +6,6 @@ ghost use Rattle.facts.specs.Sound.{Two};
 ghost use Rattle.asking.specs.Climb.{ApartAbove};
 
 use crate::tree::ancestor;
-use events::Link;
 use facts::{parent, thread};
 
 // Whether a and b "have one thread, differ, and neither is above the other".
@@ -25,14 +24,11 @@ fn apart_above(table: &[u8], a: usize, b: usize) -> bool
     requires { Two table.now a b }
     ensures { Says result (ApartAbove (events_of table.now) a b) }
 {
-    if apart(table, a, b) {
-        return true;
-    }
-    let link = parent(table, b);
-    match link {
-        Link::Absent => false,
-        Link::To(p) => apart_above(table, a, p as usize),
-    }
+    apart(table, a, b)
+        || match parent(table, b) {
+            None => false,
+            Some(p) => apart_above(table, a, p as usize),
+        }
 }
 
 // Whether a and b conflict: a climbs, and b from the start for each record that a comes to.
@@ -40,12 +36,9 @@ pub fn conflict(table: &[u8], a: usize, b: usize) -> bool
     requires { Two table.now a b }
     ensures { Says result (Conflict (events_of table.now) a b) }
 {
-    if apart_above(table, a, b) {
-        return true;
-    }
-    let link = parent(table, a);
-    match link {
-        Link::Absent => false,
-        Link::To(p) => conflict(table, p as usize, b),
-    }
+    apart_above(table, a, b)
+        || match parent(table, a) {
+            None => false,
+            Some(p) => conflict(table, p as usize, b),
+        }
 }

@@ -33,9 +33,5 @@ pub fn races(table: &[u8], a: usize, b: usize) -> bool
     requires { Two table.now a b }
     ensures { Says result (Race (events_of table.now) a b) }
 {
-    if can_race(table, a, b) {
-        unordered(table, a, b)
-    } else {
-        false
-    }
+    can_race(table, a, b) && unordered(table, a, b)
 }

@@ -4,7 +4,6 @@ ghost use Rattle.model.specs.Relations.{Po, PoDiff};
 ghost use Rattle.table.specs.Events.{events_of};
 ghost use Rattle.facts.specs.Sound.{One, Two};
 
-use events::Link;
 use facts::{parent, same_location};
 
 // po: "a before b if a is a proper ancestor of b". What is above b has a smaller number.
@@ -12,13 +11,9 @@ pub fn ancestor(table: &[u8], a: usize, b: usize) -> bool
     requires { One table.now b }
     ensures { Says result (Po (events_of table.now) a b) }
 {
-    let link = parent(table, b);
-    match link {
-        Link::Absent => false,
-        Link::To(number) => {
-            let p = number as usize;
-            if p == a { true } else { ancestor(table, a, p) }
-        }
+    match parent(table, b) {
+        None => false,
+        Some(p) => p as usize == a || ancestor(table, a, p as usize),
     }
 }
 

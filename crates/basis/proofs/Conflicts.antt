@@ -31,11 +31,11 @@ module _ {t : Table} {n : ℕ} (k : Known t n) {parent arm : List ℕ} (p : Colu
         conflict_apart k p c single l (record { with = a; low = low; related = own a low; conflict = x })
 
   pub conflict_made :
-      {w : ℕ} {itself m m' : List ℕ} → Holds w n ◌≡◌ itself → Made w n (Apart n parent arm (On w itself)) m m' → Made w n (Conflict t) m m'
+      {w : ℕ} {itself m m' : List (List ℕ)} → Holds w n ◌≡◌ itself → Made w n (Apart n parent arm (On w itself)) m m' → Made w n (Conflict t) m m'
   conflict_made {w} {itself} h = made_iff (λ a b. conflict_told own h.only) (λ a b. told_conflict own h.only)
     where
       own : (a : ℕ) → a < n → On w itself a a
       own a l = h.all a a l refl
 
-  pub no_conflict : {w : ℕ} {m m' : List ℕ} → ¬ Forks n arm → Made w n (λ a b. ⊥) m m' → Made w n (Conflict t) m m'
+  pub no_conflict : {w : ℕ} {m m' : List (List ℕ)} → ¬ Forks n arm → Made w n (λ a b. ⊥) m m' → Made w n (Conflict t) m m'
   no_conflict none = made_iff (λ a b l x. absurd x) (λ a b l x. none (apart_forks l (told_conflict {X = ◌≡◌} (λ a _. refl) (λ a v _ e. e) l x)))

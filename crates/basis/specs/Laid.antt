@@ -7,7 +7,7 @@ use Rattle.combined.specs.Columns.{Placed, WritesAt}
 use Rattle.columns.specs.Columns.{parent_number, arm_number, sync_number, place_number, kind_number, order_number, Column, Known}
 
 -- what conflict is made of and in
-pub record BranchRoom (w n : ℕ) (parent arm own below arms cf : List ℕ) : Type 0 where
+pub record BranchRoom (w n : ℕ) (parent arm : List ℕ) (own below arms cf : List (List ℕ)) : Type 0 where
   pub parents : n ≤ length parent
   pub all_arms : n ≤ length arm
   pub for_own : Room w n n own
@@ -16,7 +16,7 @@ pub record BranchRoom (w n : ℕ) (parent arm own below arms cf : List ℕ) : Ty
   pub for_cf : Room w n n cf
 
 -- what the rest is made of and in
-pub record LayRoom (w n : ℕ) (sync place kind order na hb at race : List ℕ) : Type 0 where
+pub record LayRoom (w n : ℕ) (sync place kind order : List ℕ) (na hb at race : List (List ℕ)) : Type 0 where
   pub syncs : n ≤ length sync
   pub placed : Placed n place
   pub kinds : n ≤ length kind
@@ -37,7 +37,7 @@ pub record Laying (t : Table) (n : ℕ) (parent arm sync place kind order : List
   pub orders : Column n (order_number t) order
 
 -- its relations are made
-pub record Laid (t : Table) (w n : ℕ) (place kind hb cf at race hb' cf' at' race' : List ℕ) : Type 0 where
+pub record Laid (t : Table) (w n : ℕ) (place kind : List ℕ) (hb cf at race hb' cf' at' race' : List (List ℕ)) : Type 0 where
   pub by_hb : Made w n (Hb t) hb hb'
   pub by_cf : Made w n (Conflict t) cf cf'
   pub by_at : Made w 33 (WritesAt n kind place) at at'

@@ -7,6 +7,7 @@ ghost use Rattle.rows.specs.Rows.{Made};
 ghost use Rattle.columns.specs.Columns.{parent_number, arm_number, Column, Known};
 ghost use Rattle.basis.specs.Laid.{BranchRoom, LayRoom, Laying, Laid};
 
+use columns::Fields;
 use combined::race::races;
 use rows::whole::{clear, each_itself};
 use spread::apart::apart;
@@ -14,50 +15,43 @@ use spread::forks::forks;
 use spread::onward::before;
 
 // Conflict. Where no record has two arms there is none, and nothing but `cf` is touched. `own`, `below` and `arms` are room to work in.
-fn lay_conflict(
+fn lay_conflict<const W: usize>(
     parent: &[u8],
     arm: &[u8],
-    own: &mut [u64],
-    below: &mut [u64],
-    arms: &mut [u64],
-    cf: &mut [u64],
-    w: usize,
+    own: &mut [[u64; W]],
+    below: &mut [[u64; W]],
+    arms: &mut [[u64; W]],
+    cf: &mut [[u64; W]],
     n: usize,
 )
-    requires { BranchRoom w n parent.now arm.now own.old below.old arms.old cf.old }
-    ensures { (t : Table) → Known t n → Column n (parent_number t) parent.now → Column n (arm_number t) arm.now → Made w n (Conflict t) cf.old cf.new }
+    requires { BranchRoom W n parent.now arm.now own.old below.old arms.old cf.old }
+    ensures { (t : Table) → Known t n → Column n (parent_number t) parent.now → Column n (arm_number t) arm.now → Made W n (Conflict t) cf.old cf.new }
 {
     if forks(arm, n) {
-        each_itself(own, w, n);
-        apart(parent, arm, own, below, arms, cf, w, n);
+        each_itself(own, n);
+        apart(parent, arm, own, below, arms, cf, n);
     } else {
-        clear(cf, w, n, n);
+        clear(cf, n);
     }
 }
 
 // `own`, `below`, `arms` and `na` are room to work in.
-pub fn lay(
-    parent: &[u8],
-    arm: &[u8],
-    sync: &[u8],
-    place: &[u8],
-    kind: &[u8],
-    order: &[u8],
-    own: &mut [u64],
-    below: &mut [u64],
-    arms: &mut [u64],
-    na: &mut [u64],
-    hb: &mut [u64],
-    cf: &mut [u64],
-    at: &mut [u64],
-    race: &mut [u64],
-    w: usize,
+pub fn lay<const W: usize>(
+    of: &Fields,
+    own: &mut [[u64; W]],
+    below: &mut [[u64; W]],
+    arms: &mut [[u64; W]],
+    na: &mut [[u64; W]],
+    hb: &mut [[u64; W]],
+    cf: &mut [[u64; W]],
+    at: &mut [[u64; W]],
+    race: &mut [[u64; W]],
     n: usize,
 )
-    requires { BranchRoom w n parent.now arm.now own.old below.old arms.old cf.old × LayRoom w n sync.now place.now kind.now order.now na.old hb.old at.old race.old }
-    ensures { (t : Table) → Laying t n parent.now arm.now sync.now place.now kind.now order.now → Laid t w n place.now kind.now hb.old cf.old at.old race.old hb.new cf.new at.new race.new }
+    requires { BranchRoom W n of.now.parent of.now.arm own.old below.old arms.old cf.old × LayRoom W n of.now.sync of.now.place of.now.kind of.now.order na.old hb.old at.old race.old }
+    ensures { (t : Table) → Laying t n of.now.parent of.now.arm of.now.sync of.now.place of.now.kind of.now.order → Laid t W n of.now.place of.now.kind hb.old cf.old at.old race.old hb.new cf.new at.new race.new }
 {
-    before(parent, sync, hb, w, n);
-    lay_conflict(parent, arm, own, below, arms, cf, w, n);
-    races(place, kind, order, hb, cf, at, na, race, w, n);
+    before(&of.parent, &of.sync, hb, n);
+    lay_conflict(&of.parent, &of.arm, own, below, arms, cf, n);
+    races(&of.place, &of.kind, &of.order, hb, cf, at, na, race, n);
 }

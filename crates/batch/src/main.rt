@@ -7,29 +7,28 @@ ghost use Rattle.lines.specs.Judged.{judged_text, JudgedWhole};
 
 use answers::{Step, judge_at};
 use anyhow::{Context, Result};
-use batches::{Ending, MOST};
+use batches::MOST;
 use input::read_full;
-use judge::Judged;
+use judge::Report;
 use limits::LIMIT;
 use lines::{TEXT, put_judged};
+use refusals::Refusal;
 
 // One byte more than a batch may have: a longer input is refused by what is read of it.
 const READ: usize = MOST + 1;
 
-// The first bytes.
-fn write_out(rt: &impl Print, text: &[u8], len: usize) -> Result<()>
-    requires { len ≤ length text.now }
-{
-    rt.write_all(&text[0..len]).context("output")
-}
-
 // The text of an answer.
-fn say<'a>(rt: &impl Print, judged: Judged, first: &'a [u8], second: &'a [u8]) -> Result<()>
+fn say<'a>(
+    rt: &impl Print,
+    judged: Result<Report, Refusal>,
+    first: &'a [u8],
+    second: &'a [u8],
+) -> Result<()>
     requires { (length (judged_text judged first.now second.now) ≤ longest) × JudgedWhole judged first.now second.now }
 {
     let mut out = [0u8; TEXT];
     let len = put_judged(judged, first, second, &mut out);
-    write_out(rt, &out, len)
+    rt.write_all(&out[..len]).context("output")
 }
 
 // Each table is judged with the same two buffers in turn.
@@ -45,8 +44,8 @@ fn answer(rt: &impl Print, batch: &[u8]) -> Result<()> {
             }
             Step::Ended(ending) => {
                 return match ending {
-                    Ending::Refused(why) => say(rt, Judged::Refused(why), &first, &second),
-                    Ending::Clean => Ok(()),
+                    Ok(()) => Ok(()),
+                    Err(why) => say(rt, Err(why), &first, &second),
                 };
             }
         }

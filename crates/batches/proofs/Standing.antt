@@ -1,4 +1,5 @@
 -- What stands at a place, by cases: which tests it met.
+use Rattle.std.specs.Prelude.{None}
 use mathlib.Core.Path.{◌≡◌, refl, sym, subst, ◌∙◌}
 use mathlib.Core.Bool.{Bool, true, false}
 use mathlib.Core.List.{List}
@@ -7,7 +8,6 @@ use native.Mathlib.Omega.{arith}
 use native.Mathlib.Decide.{dec_lt, dec_le}
 use lib.ListN.{length}
 use borrow.Author.Tests.{le-leb, lt-leb, lt-ltb, le-ltb}
-use Rattle.refusals.specs.declared.Byte.TheVariants.{Unnamed}
 use Rattle.refusals.specs.declared.Told.{Told}
 use Rattle.refusals.specs.Numbers.{at}
 use Rattle.batches.specs.Batch.{most, mark_at, length_at, End, cleanly, refused, Standing, table, end, stands_at}
@@ -114,7 +114,7 @@ clean_end b place e = go (stands_so b place e) refl
 pub record SmallRefusal (x : Told) : Type 0 where
   pub number : x.number ≤ 15
   pub place : x.place ≤ most
-  pub byte : x.byte ≡ Unnamed
+  pub byte : x.byte ≡ None
 
 pub refusal_small : (b : List ℕ) (place : ℕ) {x : Told} → stands_at b place ≡ end (refused x) → SmallRefusal x
 refusal_small b place {x} e = go (stands_so b place e) refl

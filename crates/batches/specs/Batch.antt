@@ -1,10 +1,9 @@
 -- What a batch holds: its tables, in order, and how it ends.
-use Rattle.std.specs.Prelude.{◌≡◌, Bool, cond, ◌&&◌, List, [], ◌∷◌, ℕ, ◌+◌, ◌-◌, eqb, leb, ltb, length, get_or, take, drop}
+use Rattle.std.specs.Prelude.{◌≡◌, Bool, cond, ◌&&◌, List, [], ◌∷◌, ℕ, ◌+◌, ◌-◌, eqb, leb, ltb, length, get_or, take, drop, Result, Ok, Err}
+use Rattle.refusals.specs.declared.Refusal.{Refusal}
 use Rattle.refusals.specs.declared.Told.{Told}
 use Rattle.refusals.specs.Numbers.{at, told}
 use Rattle.record.specs.Form.{word}
-use Rattle.batches.specs.declared.Ending.{Ending}
-use Rattle.batches.specs.declared.Ending.TheVariants as ending
 use Rattle.batches.specs.declared.Item.{Item}
 use Rattle.batches.specs.declared.Item.TheVariants as item
 
@@ -83,9 +82,9 @@ moved_on n (refused t) = refused (record { number = t.number; place = n + t.plac
 -- ---- what the code's values say
 
 -- how it ended
-abbrev pub end_of : Ending → End
-end_of ending.Clean = cleanly
-end_of (ending.Refused r) = refused (told r)
+abbrev pub end_of : Result (Unit {0}) Refusal → End
+end_of (Ok _) = cleanly
+end_of (Err r) = refused (told r)
 
 -- what stands there
 abbrev pub standing : Item → Standing

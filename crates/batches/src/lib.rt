@@ -15,24 +15,18 @@ pub const MOST: usize = 60000;
 // Before each table: the mark in two bytes, and the length in two.
 const HEADER: usize = 4;
 
-// How a batch ends.
-#[derive(Drop)]
-pub enum Ending {
-    Clean,
-    Refused(Refusal),
-}
-
-// What stands at a place: a table from a byte to before another, or the end.
+// What stands at a place: a table from a byte to before another, or the end of the batch, cleanly or with a refusal. Both are answers, and the end is what
+// a caller reads on for: no `Result` of a table, whose clean end would be an error.
 #[derive(Drop)]
 pub enum Item {
     Table(usize, usize),
-    Ended(Ending),
+    Ended(Result<(), Refusal>),
 }
 
 fn refused(why: Refusal) -> Item
     ensures { standing result ≡ end (refused (told why)) }
 {
-    Item::Ended(Ending::Refused(why))
+    Item::Ended(Err(why))
 }
 
 // "the two-byte mark 54 42 (hex)"
@@ -67,7 +61,7 @@ pub fn item_at(batch: &[u8], at: usize) -> Item
         return refused(Refusal::Length);
     }
     if size <= at {
-        return Item::Ended(Ending::Clean);
+        return Item::Ended(Ok(()));
     }
     if size - at < HEADER {
         return refused(Refusal::Short(at));
@@ -81,10 +75,7 @@ pub fn item_at(batch: &[u8], at: usize) -> Item
 pub fn is_table(item: Item) -> bool
     ensures { result ≡ is_table (standing item) }
 {
-    match item {
-        Item::Table(_, _) => true,
-        Item::Ended(_) => false,
-    }
+    matches!(item, Item::Table(_, _))
 }
 
 // The bytes of the table at a place, a part of the batch from its middle; no byte where the batch has ended.

@@ -2,7 +2,7 @@
 use mathlib.Core.Path.{◌≡◌, sym, subst, ◌∙◌}
 use mathlib.Core.List.{List}
 use mathlib.Core.Logic.{◌⊎◌, inl, ⊎_elim, ⊎_map}
-use Prim.Native.Nat.{ℕ, ◌+◌, ◌≤◌, ◌<◌}
+use Prim.Native.Nat.{ℕ, ◌+◌, ◌<◌}
 use native.Mathlib.Omega.{arith}
 use native.Mathlib.Numerals.{add-one}
 use native.Mathlib.Decide.{dec_lt}
@@ -33,11 +33,11 @@ module _ {k i j : ℕ} {S : Rel} {a b : ℕ} (f : S k b → b < i → b < j) whe
 
 -- k leads to no number from one of the two up to the other
 passed_same :
-    {w n k i j : ℕ} {S : Rel} {m₀ m : List ℕ} → ((b : ℕ) → b < n → S k b → b < i → b < j) → ((b : ℕ) → b < n → S k b → b < j → b < i)
+    {w n k i j : ℕ} {S : Rel} {m₀ m : List (List ℕ)} → ((b : ℕ) → b < n → S k b → b < i → b < j) → ((b : ℕ) → b < n → S k b → b < j → b < i)
     → Made w n (Passed k i S) m₀ m → Made w n (Passed k j S) m₀ m
 passed_same f g = made_iff (λ a b l. passed_to (f b l)) (λ a b l. passed_to (g b l))
 
-module _ {w n h k : ℕ} {class members m₀ : List ℕ} (given : InClasses w n h class members m₀) where
+module _ {w n h k : ℕ} {class : List ℕ} {members m₀ : List (List ℕ)} (given : InClasses w n h class members m₀) where
   -- k leads to no number that is not a member of its class
   next_member : {lo i : ℕ} → NextOf w members (get_or class k 0) lo i → (b : ℕ) → Cell w n m₀ k b → b < i → b < lo
   next_member {lo} {i} next b s l = by (dec_lt b lo)
@@ -47,24 +47,18 @@ module _ {w n h k : ℕ} {class members m₀ : List ℕ} (given : InClasses w n 
       by (no h) = absurd (next.before b (omega arith) l (given.within k b s))
 
   pub passed_next :
-      {lo i : ℕ} {m : List ℕ} → NextOf w members (get_or class k 0) lo i → Made w n (Passed k lo (Cell w n m₀)) m₀ m
+      {lo i : ℕ} {m : List (List ℕ)} → NextOf w members (get_or class k 0) lo i → Made w n (Passed k lo (Cell w n m₀)) m₀ m
       → Made w n (Passed k i (Cell w n m₀)) m₀ m
   passed_next next = passed_same (λ b l s h. omega (arith, next.low)) (λ b l s h. next_member next b s h)
 
-  pub passed_first : {i : ℕ} → NextOf w members (get_or class k 0) 0 i → Made w n (Passed k i (Cell w n m₀)) m₀ m₀
-  passed_first next =
-      passed_next next
-      (made_iff (λ a b l o. inl (record { row = l; on = o })) (λ a b l. ⊎_elim (λ s. s.on) (λ v. absurd (omega (arith, v.low))))
-      (made_held (holds_itself w n m₀)))
-
-  module _ {b : ℕ} {m : List ℕ} (low : b < n) (p : Made w n (Passed k b (Cell w n m₀)) m₀ m) where
+  module _ {b : ℕ} {m : List (List ℕ)} (low : b < n) (p : Made w n (Passed k b (Cell w n m₀)) m₀ m) where
     -- row b was not changed yet
     todo : (a : ℕ) → On w m a b → Cell w n m₀ a b
     todo a o = ⊎_elim (λ s. s) (λ v. absurd (omega (arith, v.low))) (p.holds.only a b low o)
 
     -- it has k, and takes in row k
     pub passed_joined :
-        {m' : List ℕ} → k < n → On w m k b → MadeRow w b (λ a. On w m a b ⊎ On w m₀ a k) m m' → Made w n (Passed k (b + 1) (Cell w n m₀)) m₀ m'
+        {m' : List (List ℕ)} → k < n → On w m k b → MadeRow w b (λ a. On w m a b ⊎ On w m₀ a k) m m' → Made w n (Passed k (b + 1) (Cell w n m₀)) m₀ m'
     passed_joined lk on r =
         made_again b low (λ a c ne. passed_to (λ s l. omega arith)) (λ a c ne. passed_to (λ s l. omega (arith, ne))) p
         (made_row_iff
@@ -82,18 +76,9 @@ module _ {w n h k : ℕ} {class members m₀ : List ℕ} (given : InClasses w n 
             let e : c ≡ b = omega arith in
             absurd (off (p.holds.all k b low (inl (subst (Cell w n m₀ k) e s))))
 
-pub passed_all : {w n k i : ℕ} {S : Rel} {m₀ m : List ℕ} → n ≤ i → Made w n (Passed k i S) m₀ m → Made w n (Through k S) m₀ m
-passed_all high =
-    made_iff (λ a b l. ⊎_map (λ s. s) (λ v. (v.to, v.from))) (λ a b l. ⊎_map (λ s. s) (λ z. record { low = omega arith; to = z.0; from = z.1 }))
-
--- nothing leads to k
-pub never_through : {w n k : ℕ} {m : List ℕ} → ((a : ℕ) → ¬ On w m a k) → Made w n (Through k (Cell w n m)) m m
-never_through {w} {n} {k} {m} none =
-    made_iff (λ a b l o. inl (record { row = l; on = o })) (λ a b l. ⊎_elim (λ c. c.on) (λ z. absurd (none a z.0.on))) (made_held (holds_itself w n m))
-
 -- steps by way of k stay within classes too
 pub classes_kept :
-    {w n h k : ℕ} {class members m m' : List ℕ} → InClasses w n h class members m → Made w n (Through k (Cell w n m)) m m'
+    {w n h k : ℕ} {class : List ℕ} {members m m' : List (List ℕ)} → InClasses w n h class members m → Made w n (Through k (Cell w n m)) m m'
     → InClasses w n h class members m'
 classes_kept {w} {n} {h} {k} {class} {members} {m} {m'} g p = record {
   column = g.column;
@@ -108,11 +93,11 @@ classes_kept {w} {n} {h} {k} {class} {members} {m} {m'} g p = record {
     was : (a b : ℕ) → Cell w n m' a b → Through k (Cell w n m) a b
     was a b c = p.holds.only a b c.row c.on
 
-pub stage_none : (w n : ℕ) (m : List ℕ) → Made w n (Stage 0 (Cell w n m)) m m
+pub stage_none : (w n : ℕ) (m : List (List ℕ)) → Made w n (Stage 0 (Cell w n m)) m m
 stage_none w n m = made_iff (λ a b l o. direct (record { row = l; on = o })) (λ a b l s. (stage_zero s).on) (made_held (holds_itself w n m))
 
 pub stage_more :
-    {w n k : ℕ} {R : Rel} {m₀ m m' : List ℕ} → k < n → Made w n (Stage k R) m₀ m → Made w n (Through k (Cell w n m)) m m'
+    {w n k : ℕ} {R : Rel} {m₀ m m' : List (List ℕ)} → k < n → Made w n (Stage k R) m₀ m → Made w n (Through k (Cell w n m)) m m'
     → Made w n (Stage (k + 1) R) m₀ m'
 stage_more {w} {n} {k} {R} {m = m} lk p q = rw add-one (made_trans p
     (made_iff (λ a b l t. through_stage (⊎_map (of l) (λ z. (of lk z.0, of l z.1)) t))
@@ -125,6 +110,6 @@ stage_more {w} {n} {k} {R} {m = m} lk p q = rw add-one (made_trans p
     cell {a} {b} l s = record { row = l; on = p.holds.all a b l s }
 
 pub stage_all :
-    {w n h : ℕ} {class members m₀ m : List ℕ} → InClasses w n h class members m₀ → Made w n (Stage n (Cell w n m₀)) m₀ m
+    {w n h : ℕ} {class : List ℕ} {members m₀ m : List (List ℕ)} → InClasses w n h class members m₀ → Made w n (Stage n (Cell w n m₀)) m₀ m
     → Made w n (Plus (Cell w n m₀)) m₀ m
 stage_all g = made_iff (λ a b l. stage_plus) (λ a b l. plus_stage (record { left = λ {a} {b} c. g.low a b c; right = λ c. c.row }))

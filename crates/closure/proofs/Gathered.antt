@@ -13,15 +13,12 @@ use Rattle.rows.specs.Found.{NextOf}
 use Rattle.rows.proofs.Sets.{is_iff, either_of}
 
 -- x relates a to a number below v that row b of m has
-pub record Gathered (w n : ℕ) (x m : List ℕ) (b v a : ℕ) : Type 0 where
+pub record Gathered (w n : ℕ) (x m : List (List ℕ)) (b v a : ℕ) : Type 0 where
   pub by : Then (Cell w n x) (On w m) a b
   pub low : by.mid < v
 
-module _ {w n : ℕ} {x m : List ℕ} {b v : ℕ} where
-  pub gathered_none : {s : Set} → NextOf w m b 0 v → Is s (λ _. ⊥) → Is s (Gathered w n x m b v)
-  gathered_none next = is_iff (λ a z. absurd z) (λ a g. next.before g.by.mid (omega arith) g.low g.by.next)
-
-  pub gathered_all : {s : Set} → n ≤ v → Is s (Gathered w n x m b v) → Is s (λ a. Then (Cell w n x) (On w m) a b)
+module _ {w n : ℕ} {x m : List (List ℕ)} {b v : ℕ} where
+  pub gathered_all : {s : Set w} → n ≤ v → Is s (Gathered w n x m b v) → Is s (λ a. Then (Cell w n x) (On w m) a b)
   gathered_all high = is_iff (λ a g. g.by) (λ a t. record { by = t; low = omega (arith, t.first.row) })
 
   module _ {v' : ℕ} (low : v < n) (here : On w m v b) (next : NextOf w m b (v + 1) v') where
@@ -36,5 +33,5 @@ module _ {w n : ℕ} {x m : List ℕ} {b v : ℕ} where
 
     -- v too
     pub gathered_more :
-        {all there r : Set} → Is all (Gathered w n x m b v) → Is there (λ a. On w x a v) → Is r (λ a. In all a ⊎ In there a) → Is r (Gathered w n x m b v')
+        {all there r : Set w} → Is all (Gathered w n x m b v) → Is there (λ a. On w x a v) → Is r (λ a. In all a ⊎ In there a) → Is r (Gathered w n x m b v')
     gathered_more p q i = is_iff more_gathered gathered_or (either_of p q i)

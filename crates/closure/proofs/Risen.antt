@@ -10,13 +10,13 @@ use Rattle.laws.specs.Steps.{Plus, Plus.one, Plus.more}
 use Rattle.rows.specs.Rows.{On, Holds, Cell, Outside, MadeRow}
 use Rattle.rows.specs.Steps.{Then}
 use Rattle.rows.specs.Found.{LastOf}
-use Rattle.rows.proofs.Parts.{outside_none, outside_trans}
+use Rattle.rows.proofs.Parts.{outside_trans}
 use Rattle.rows.proofs.Rows.{on_dec, holds_beside, room_kept}
 use Rattle.rows.proofs.Steps.{plus_before}
 use Rattle.closure.specs.Classes.{Rising}
 
 -- the rows before b are done; row b of out is closed, and a number that steps to b is either in it or in left; row b of over follows it
-pub record Risen (w n b : ℕ) (m x out over left : List ℕ) : Type 0 where
+pub record Risen (w n b : ℕ) (m x out over left : List (List ℕ)) : Type 0 where
   pub out_before : Holds w b (Plus (Cell w n m)) out
   pub over_before : Holds w b (Then (On w x) (Plus (Cell w n m))) over
   pub sound : (a : ℕ) → On w out a b → Plus (Cell w n m) a b
@@ -28,16 +28,16 @@ pub record Risen (w n b : ℕ) (m x out over left : List ℕ) : Type 0 where
   pub leads : (a : ℕ) → Then (On w x) (On w out) a b → On w over a b
 
 -- so it is at each turn of the loop; v is the next to be taken in
-pub record Turn (w n b : ℕ) (m x out₀ over₀ left₀ out over left : List ℕ) (v : ℕ) : Type 0 where
+pub record Turn (w n b : ℕ) (m x out₀ over₀ left₀ out over left : List (List ℕ)) (v : ℕ) : Type 0 where
   pub rooms : Rising w n m x out over left
   pub risen : Risen w n b m x out over left
   pub next : LastOf w left 0 v
-  pub out_rest : Outside (b * w) (b * w + w) out₀ out
-  pub over_rest : Outside (b * w) (b * w + w) over₀ over
-  pub left_rest : Outside (0 * w) (0 * w + w) left₀ left
+  pub out_rest : Outside b (b + 1) out₀ out
+  pub over_rest : Outside b (b + 1) over₀ over
+  pub left_rest : Outside 0 1 left₀ left
 
 pub rooms_kept :
-    {w n : ℕ} {m x out over left out' over' left' : List ℕ} → Rising w n m x out over left → length out' ≡ length out → length over' ≡ length over
+    {w n : ℕ} {m x out over left out' over' left' : List (List ℕ)} → Rising w n m x out over left → length out' ≡ length out → length over' ≡ length over
     → length left' ≡ length left → Rising w n m x out' over' left'
 rooms_kept r e f g = record {
   for_m = r.for_m;
@@ -48,32 +48,9 @@ rooms_kept r e f g = record {
   rises = r.rises;
 }
 
-pub turn_first :
-    {w n b v : ℕ} {m x out₀ over₀ left₀ out over left : List ℕ} → b < n → Rising w n m x out₀ over₀ left₀ → Holds w b (Plus (Cell w n m)) out₀
-    → Holds w b (Then (On w x) (Plus (Cell w n m))) over₀ → MadeRow w b (λ _. ⊥) out₀ out → MadeRow w b (λ _. ⊥) over₀ over
-    → MadeRow w 0 (λ a. On w m a b) left₀ left → LastOf w left 0 v → Turn w n b m x out over left out over left v
-turn_first {b = b} low rooms hout hover p q s l = record {
-  rooms = rooms_kept rooms p.rest.size q.rest.size s.rest.size;
-  risen = record {
-    out_before = holds_beside hout p;
-    over_before = holds_beside hover q;
-    sound = λ a o. absurd (p.only a o);
-    closed = λ a c r o. absurd (p.only c o);
-    steps = λ a o. record { row = low; on = s.only a o };
-    each = λ a r. inl (s.all a r.on);
-    apart = λ a l. p.only a;
-    led = λ a o. absurd (q.only a o);
-    leads = λ a t. absurd (p.only t.mid t.next);
-  };
-  next = l;
-  out_rest = outside_none;
-  over_rest = outside_none;
-  left_rest = outside_none;
-}
-
 -- v and row v are taken in
 module _
-    {w n b v : ℕ} {m x out over left out' over' left' : List ℕ} (low : v < b) (h : Risen w n b m x out over left) (here : On w left v 0)
+    {w n b v : ℕ} {m x out over left out' over' left' : List (List ℕ)} (low : v < b) (h : Risen w n b m x out over left) (here : On w left v 0)
     (p : MadeRow w b (λ a. (On w out a b ⊎ On w out a v) ⊎ (a ≡ v)) out out')
     (q : MadeRow w b (λ a. (On w over a b ⊎ On w over a v) ⊎ On w x a v) over over')
     (s : MadeRow w 0 (λ a. On w left a 0 × (¬ On w out' a b)) left left')
@@ -135,11 +112,11 @@ turns_fall {v} {v'} {b} low f = by (dec_lt v b) (dec_lt v' b)
     by (yes l) (yes k) = let h : v' < v = f k in omega arith
 
 -- one turn
-module _ {w n b v : ℕ} {m x out₀ over₀ left₀ out over left : List ℕ} (less : b < n) (low : v < b) (t : Turn w n b m x out₀ over₀ left₀ out over left v) where
+module _ {w n b v : ℕ} {m x out₀ over₀ left₀ out over left : List (List ℕ)} (less : b < n) (low : v < b) (t : Turn w n b m x out₀ over₀ left₀ out over left v) where
   here : On w left v 0
   here = t.next.on (omega (arith, t.rooms.for_m.wide))
 
-  module _ {v' : ℕ} {out' over' left' : List ℕ} (p : MadeRow w b (λ a. (On w out a b ⊎ On w out a v) ⊎ (a ≡ v)) out out') where
+  module _ {v' : ℕ} {out' over' left' : List (List ℕ)} (p : MadeRow w b (λ a. (On w out a b ⊎ On w out a v) ⊎ (a ≡ v)) out out') where
     pub turn_more :
         MadeRow w b (λ a. (On w over a b ⊎ On w over a v) ⊎ On w x a v) over over' → MadeRow w 0 (λ a. On w left a 0 × (¬ On w out' a b)) left left'
         → LastOf w left' 0 v' → Turn w n b m x out₀ over₀ left₀ out' over' left' v'
@@ -170,7 +147,7 @@ module _ {w n b v : ℕ} {m x out₀ over₀ left₀ out over left : List ℕ} (
             by (no z) le = let e : v' ≡ v = omega arith in absurd (off (p.all v' (inr e)))
 
 -- nothing is left
-module _ {w n b v : ℕ} {m x out₀ over₀ left₀ out over left : List ℕ} (high : b ≤ v) (t : Turn w n b m x out₀ over₀ left₀ out over left v) where
+module _ {w n b v : ℕ} {m x out₀ over₀ left₀ out over left : List (List ℕ)} (high : b ≤ v) (t : Turn w n b m x out₀ over₀ left₀ out over left v) where
   none_left : (a : ℕ) → ¬ On w left a 0
   none_left a o = by (dec_lt v (64 * w))
     where

@@ -1,4 +1,5 @@
 -- The bytes of a record tell what the columns say of it.
+use Rattle.std.specs.Prelude.{Option, None, Some}
 use mathlib.Core.Path.{◌≡◌, refl, sym, ap, ap₂, subst, ◌∙◌}
 use mathlib.Core.Bool.{Bool, true, false, ◌&&◌}
 use mathlib.Core.List.{List}
@@ -8,8 +9,6 @@ use borrow.Author.Tests.{lt-ltb, le-ltb, eqb-true}
 use lib.Dec.{eqb, ltb, leb}
 use Rattle.events.specs.declared.Order.{Order}
 use Rattle.events.specs.declared.Order.TheVariants.{Na, Acq, Rel, Ar, Sc}
-use Rattle.events.specs.declared.Link.{Link}
-use Rattle.events.specs.declared.Link.TheVariants.{Absent, To}
 use Rattle.events.specs.declared.Event.{Event}
 use Rattle.events.specs.declared.Event.TheVariants.{Init, Load, Store, Update}
 use Rattle.events.specs.declared.Record.{Record}
@@ -31,7 +30,7 @@ link_number_lem : (x : ℕ) → link_number (link_from x) ≡ x
 unfolding link_from
 link_number_lem x = by (eqb x 255) refl
   where
-    by : (t : Bool) → eqb x 255 ≡ t → link_number (pick t Absent (To x)) ≡ x
+    by : (t : Bool) → eqb x 255 ≡ t → link_number (pick t None (Some x)) ≡ x
     by true e = sym (eqb-true x 255 e)
     by false e = refl
 
@@ -106,13 +105,13 @@ module _ {b : List ℕ} {n : ℕ} (counted : Counted b n) where
     abbrev sync : ℕ
     sync = sync_from k (source_byte (part b k)) (order_byte (part b k)) (order_byte (part b (source_byte (part b k))))
 
-    sync_none : ((events_of b).at k).source ≡ Absent → sync ≡ no_number
+    sync_none : ((events_of b).at k).source ≡ None → sync ≡ no_number
     sync_none e =
         let s : source_byte (part b k) ≡ no_number = source_byte_lem (one_of counted l) ∙ ap link_number e in
         let f : ltb (source_byte (part b k)) k ≡ false = le-ltb (source_byte (part b k)) k (omega (arith, s, few counted)) in
         rw f
 
-    sync_some : (s : ℕ) → ((events_of b).at k).source ≡ To s → sync ≡ sync_by (events_of b) k (To s)
+    sync_some : (s : ℕ) → ((events_of b).at k).source ≡ Some s → sync ≡ sync_by (events_of b) k (Some s)
     sync_some s e =
         let g : source_byte (part b k) ≡ s = source_byte_lem (one_of counted l) ∙ ap link_number e in
         let h = (source_is_earlier_write (formed counted) (has_source (formed counted) s k e)).earlier in
@@ -123,9 +122,9 @@ module _ {b : List ℕ} {n : ℕ} (counted : Counted b n) where
         (ap (leb 2) (order_byte_lem (one_of counted (omega (arith, h, l)))) ∙ releases_code (order_of ((events_of b).at s).event))
         ∙ number_pick (acquires (order_of ((events_of b).at k).event) && releases (order_of ((events_of b).at s).event)) s))
 
-    sync_as : (link : Link) → ((events_of b).at k).source ≡ link → sync ≡ sync_by (events_of b) k link
-    sync_as Absent e = sync_none e
-    sync_as (To s) e = sync_some s e
+    sync_as : (link : Option ℕ) → ((events_of b).at k).source ≡ link → sync ≡ sync_by (events_of b) k link
+    sync_as None e = sync_none e
+    sync_as (Some s) e = sync_some s e
 
     pub sync_bytes : sync_from k (source_byte (part b k)) (order_byte (part b k)) (order_byte (part b (source_byte (part b k)))) ≡ sync_number (events_of b) k
     sync_bytes = sync_as ((events_of b).at k).source refl

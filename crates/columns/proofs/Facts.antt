@@ -1,4 +1,5 @@
 -- What each column tells of one record, or of two.
+use Rattle.std.specs.Prelude.{Option, None, Some}
 use mathlib.Core.Path.{◌≡◌, refl, sym, ap, subst, ◌∙◌}
 use mathlib.Core.Bool.{Bool, true, false, ◌&&◌}
 use mathlib.Core.List.{List}
@@ -8,8 +9,6 @@ use lib.Dec.{T, eqb, eqb→eq, eqb_refl}
 use lib.ListN.{get_or}
 use Rattle.events.specs.declared.Order.{Order}
 use Rattle.events.specs.declared.Order.TheVariants.{Na, Acq, Rel, Ar, Sc}
-use Rattle.events.specs.declared.Link.{Link}
-use Rattle.events.specs.declared.Link.TheVariants.{Absent, To}
 use Rattle.events.specs.declared.Event.{Event}
 use Rattle.events.specs.declared.Event.TheVariants.{Init, Load, Store, Update}
 use Rattle.events.specs.Words.{is_init, is_write, is_update, is_na, is_sc, order_of, code_of, at_one_location, acquires, releases}
@@ -19,9 +18,9 @@ use Rattle.model.specs.Relations.{Sw}
 use Rattle.model.proofs.Facts.{parent_earlier, has_source, source_is_earlier_write}
 use Rattle.columns.specs.Columns.{no_number, number_if, link_number, no_place, place_of, kind_of, unless_init, parent_number, arm_number, source_number, sync_by, sync_number, place_number, kind_number, order_number, Column, Known}
 
-number_link : (l : Link) (a : ℕ) → a < no_number → link_number l ≡ a → l ≡ To a
-number_link Absent a h e = absurd (omega arith)
-number_link (To s) a h e = ap To e
+number_link : (l : Option ℕ) (a : ℕ) → a < no_number → link_number l ≡ a → l ≡ Some a
+number_link None a h e = absurd (omega arith)
+number_link (Some s) a h e = ap Some e
 
 number_if_lem : (w : Bool) (s a : ℕ) → a < no_number → number_if w s ≡ a → T w × (s ≡ a)
 number_if_lem true s a l e = (tt, e)
@@ -189,12 +188,12 @@ module _ {t : Table} {n : ℕ} (k : Known t n) where
     pub led_by_sync : Leads sync a b → Sw t a b
     led_by_sync x = by (t.at b).source refl (sym (c.says b l) ∙ x.is)
       where
-        by : (s : Link) → (t.at b).source ≡ s → sync_by t b s ≡ a → Sw t a b
-        by Absent e h = let z = low l x.falls in absurd (omega (arith, h, z))
-        by (To s) e h =
+        by : (s : Option ℕ) → (t.at b).source ≡ s → sync_by t b s ≡ a → Sw t a b
+        by None e h = let z = low l x.falls in absurd (omega (arith, h, z))
+        by (Some s) e h =
             let (w, q) = number_if_lem (acquires (order_of (t.at b).event) && releases (order_of (t.at s).event)) s a (low l x.falls) h in
             let (p, r) = both_true (acquires (order_of (t.at b).event)) (releases (order_of (t.at s).event)) w in
-            record { source = has_source k.formed a b (e ∙ ap To q); releasing = subst (Releasing t) q r; acquiring = p }
+            record { source = has_source k.formed a b (e ∙ ap Some q); releasing = subst (Releasing t) q r; acquiring = p }
 
     pub sync_leads : Sw t a b → Leads sync a b
     sync_leads s = record {

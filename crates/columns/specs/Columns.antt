@@ -1,12 +1,9 @@
 -- The columns of a table: what its relations ask of each record, as numbers.
-use Rattle.std.specs.Prelude.{◌≡◌, Bool, true, false, ◌&&◌, List, ℕ, ◌<◌, ◌≤◌, length, get_or}
-use Rattle.events.specs.declared.Link.{Link}
-use Rattle.events.specs.declared.Link.TheVariants.{Absent, To}
+use Rattle.std.specs.Prelude.{◌≡◌, Bool, true, false, ◌&&◌, List, ℕ, ◌<◌, ◌≤◌, length, get_or, Option, None, Some}
 use Rattle.events.specs.declared.Event.{Event}
 use Rattle.events.specs.declared.Event.TheVariants.{Init, Load, Store, Update}
 use Rattle.events.specs.Words.{order_of, code_of, acquires, releases}
 use Rattle.limits.specs.Limit.{limit}
-use Rattle.rows.specs.Rows.{Outside}
 use Rattle.model.specs.Table.{Table}
 use Rattle.model.specs.WellFormed.{WellFormed}
 
@@ -18,9 +15,9 @@ abbrev pub number_if : Bool → ℕ → ℕ
 number_if true v = v
 number_if false v = no_number
 
-abbrev pub link_number : Link → ℕ
-link_number Absent = no_number
-link_number (To s) = s
+abbrev pub link_number : Option ℕ → ℕ
+link_number None = no_number
+link_number (Some s) = s
 
 -- 32 stands for no place: locations are 0 to 31, and "Init has no location"
 abbrev pub no_place : ℕ
@@ -59,9 +56,9 @@ module _ (t : Table) where
   source_number b = link_number (t.at b).source
 
   -- "from a releasing source to an acquiring read of it"
-  abbrev pub sync_by : ℕ → Link → ℕ
-  sync_by b Absent = no_number
-  sync_by b (To s) = number_if (acquires (order_of (t.at b).event) && releases (order_of (t.at s).event)) s
+  abbrev pub sync_by : ℕ → Option ℕ → ℕ
+  sync_by b None = no_number
+  sync_by b (Some s) = number_if (acquires (order_of (t.at b).event) && releases (order_of (t.at s).event)) s
 
   abbrev pub sync_number : ℕ → ℕ
   sync_number b = sync_by b (t.at b).source
@@ -98,13 +95,3 @@ pub record Columns (t : Table) (n : ℕ) (parent arm source sync place kind orde
   pub places : Column n (place_number t) place
   pub kinds : Column n (kind_number t) kind
   pub orders : Column n (order_number t) order
-
--- and past the first n entries they are as they were
-pub record Rest (n : ℕ) (parent arm source sync place kind order parent' arm' source' sync' place' kind' order' : List ℕ) : Type 0 where
-  pub of_parent : Outside 0 n parent parent'
-  pub of_arm : Outside 0 n arm arm'
-  pub of_source : Outside 0 n source source'
-  pub of_sync : Outside 0 n sync sync'
-  pub of_place : Outside 0 n place place'
-  pub of_kind : Outside 0 n kind kind'
-  pub of_order : Outside 0 n order order'

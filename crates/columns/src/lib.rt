@@ -5,10 +5,11 @@ ghost use Rattle.std.specs.Prelude.{◌≡◌, ◌<◌};
 ghost use Rattle.record.specs.Form.{order_byte, part};
 ghost use Rattle.table.specs.Events.{events_of};
 ghost use Rattle.facts.specs.Sound.{Counted};
-ghost use Rattle.columns.specs.Columns.{Columns, Rest};
-ghost use Rattle.columns.specs.Codes.{place_from, arm_from, acquires_code, sync_from, Lent};
+ghost use Rattle.columns.specs.Columns.{Columns};
+ghost use Rattle.columns.specs.Codes.{place_from, arm_from, acquires_code, sync_from};
 
 use facts::byte;
+use limits::LIMIT;
 use numbers::wide;
 use record::places::{INIT, KIND, LOCATION, NONE, ORDER, PARENT, SOURCE};
 
@@ -50,21 +51,30 @@ fn sync_of(table: &[u8], n: usize, b: usize, source: u8, order: u8) -> u8
     NONE
 }
 
+// What the relations ask of the records: a byte for each. Past the records that there are, nothing is said.
+#[derive(Drop)]
+pub struct Fields {
+    pub parent: [u8; LIMIT],
+    pub arm: [u8; LIMIT],
+    pub source: [u8; LIMIT],
+    pub sync: [u8; LIMIT],
+    pub place: [u8; LIMIT],
+    pub kind: [u8; LIMIT],
+    pub order: [u8; LIMIT],
+}
+
 // All columns of a sound table, record by record.
-pub fn read(
-    table: &[u8],
-    n: usize,
-    parent: &mut [u8],
-    arm: &mut [u8],
-    source: &mut [u8],
-    sync: &mut [u8],
-    place: &mut [u8],
-    kind: &mut [u8],
-    order: &mut [u8],
-)
-    requires { Counted table.now n × Lent n parent.old arm.old source.old sync.old place.old kind.old order.old }
-    ensures { Columns (events_of table.now) n parent.new arm.new source.new sync.new place.new kind.new order.new × Rest n parent.old arm.old source.old sync.old place.old kind.old order.old parent.new arm.new source.new sync.new place.new kind.new order.new }
+pub fn read(table: &[u8], n: usize) -> Fields
+    requires { Counted table.now n }
+    ensures { Columns (events_of table.now) n result.parent result.arm result.source result.sync result.place result.kind result.order }
 {
+    let mut parent = [0u8; LIMIT];
+    let mut arm = [0u8; LIMIT];
+    let mut source = [0u8; LIMIT];
+    let mut sync = [0u8; LIMIT];
+    let mut place = [0u8; LIMIT];
+    let mut kind = [0u8; LIMIT];
+    let mut order = [0u8; LIMIT];
     for b in 0..n {
         let k = byte(table, b, KIND);
         let o = byte(table, b, ORDER);
@@ -78,5 +88,14 @@ pub fn read(
         place[b] = place_from(k, x);
         kind[b] = k;
         order[b] = o;
+    }
+    Fields {
+        parent,
+        arm,
+        source,
+        sync,
+        place,
+        kind,
+        order,
     }
 }

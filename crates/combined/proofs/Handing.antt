@@ -2,7 +2,7 @@
 use mathlib.Core.Path.{◌≡◌, refl, sym, subst}
 use mathlib.Core.List.{List}
 use mathlib.Core.Logic.{◌⊎◌, inl, inr, ⊎_map}
-use Prim.Native.Nat.{ℕ, ◌+◌, ◌*◌, ◌<◌, ◌≤◌}
+use Prim.Native.Nat.{ℕ, ◌+◌, ◌<◌, ◌≤◌}
 use native.Mathlib.Omega.{arith}
 use native.Mathlib.Decide.{ℕ_discrete}
 use lib.ListN.{get_or}
@@ -25,7 +25,7 @@ module _ {kind source : List ℕ} where
   owned_by (itself h) = inl (h, refl)
   owned_by (as_source l) = inr l
 
-module _ {w n b : ℕ} {New : ℕ → Type 0} {owners out : List ℕ} where
+module _ {w n b : ℕ} {New : ℕ → Type 0} {owners out : List (List ℕ)} where
   pub handed_none : Handed w n b (λ _. ⊥) New owners out owners out
   handed_none = record {
     owned = record { rest = outside_none; all = λ a z. before z; only = λ a o. inl o };
@@ -41,7 +41,7 @@ module _ {w n b : ℕ} {New : ℕ → Type 0} {owners out : List ℕ} where
       was (new z q d) = absurd z
 
   pub handed_iff :
-      {P Q : ℕ → Type 0} {owners' out' : List ℕ} → ((o : ℕ) → P o → Q o) → ((o : ℕ) → Q o → P o) → Handed w n b P New owners out owners' out'
+      {P Q : ℕ → Type 0} {owners' out' : List (List ℕ)} → ((o : ℕ) → P o → Q o) → ((o : ℕ) → Q o → P o) → Handed w n b P New owners out owners' out'
       → Handed w n b Q New owners out owners' out'
   handed_iff {P} {Q} f g h = record {
     owned = made_row_iff (λ a. ⊎_map (λ o. o) (f a)) (λ a. ⊎_map (λ o. o) (g a)) h.owned;
@@ -54,11 +54,11 @@ module _ {w n b : ℕ} {New : ℕ → Type 0} {owners out : List ℕ} where
 
   -- one owner more
   module _
-      {P : ℕ → Type 0} {owners₁ out₁ : List ℕ} {o : ℕ} (apart : NoneItself w n out) (low : o < n)
+      {P : ℕ → Type 0} {owners₁ out₁ : List (List ℕ)} {o : ℕ} (apart : NoneItself w n out) (low : o < n)
       (h : Handed w n b P New owners out owners₁ out₁)
     where
       more_owned :
-          {owners₂ : List ℕ} → MadeRow w b (λ x. On w owners₁ x b ⊎ (x ≡ o)) owners₁ owners₂
+          {owners₂ : List (List ℕ)} → MadeRow w b (λ x. On w owners₁ x b ⊎ (x ≡ o)) owners₁ owners₂
           → MadeRow w b (λ x. On w owners x b ⊎ (P x ⊎ (x ≡ o))) owners owners₂
       more_owned r = made_row_trans h.owned (made_row_iff to from r)
         where
@@ -81,7 +81,7 @@ module _ {w n b : ℕ} {New : ℕ → Type 0} {owners out : List ℕ} where
       down a c ne (new (inr e) q d) = absurd (ne e)
 
       more_taken :
-          {out₂ : List ℕ} → MadeRow w o (λ a. (On w out₁ a o ⊎ New a) × (¬ (a ≡ o))) out₁ out₂ → Made w n (Taking (λ x. P x ⊎ (x ≡ o)) New (On w out)) out out₂
+          {out₂ : List (List ℕ)} → MadeRow w o (λ a. (On w out₁ a o ⊎ New a) × (¬ (a ≡ o))) out₁ out₂ → Made w n (Taking (λ x. P x ⊎ (x ≡ o)) New (On w out)) out out₂
       more_taken r = made_again o low (λ a c _. up a c) down h.taken (made_row_iff to from r)
         where
           to : (a : ℕ) → (On w out₁ a o ⊎ New a) × (¬ (a ≡ o)) → Taking (λ x. P x ⊎ (x ≡ o)) New (On w out) a o
@@ -94,40 +94,35 @@ module _ {w n b : ℕ} {New : ℕ → Type 0} {owners out : List ℕ} where
           from a (new (inr e) q d) = (inr q, d)
 
       pub handed_more :
-          {owners₂ out₂ : List ℕ} → MadeRow w b (λ x. On w owners₁ x b ⊎ (x ≡ o)) owners₁ owners₂ → MadeRow w o (λ a. (On w out₁ a o ⊎ New a) × (¬ (a ≡ o))) out₁ out₂
+          {owners₂ out₂ : List (List ℕ)} → MadeRow w b (λ x. On w owners₁ x b ⊎ (x ≡ o)) owners₁ owners₂ → MadeRow w o (λ a. (On w out₁ a o ⊎ New a) × (¬ (a ≡ o))) out₁ out₂
           → Handed w n b (λ x. P x ⊎ (x ≡ o)) New owners out owners₂ out₂
       handed_more r t = record { owned = more_owned r; taken = more_taken t }
 
 -- what is handed on to b's owners, after what was handed on for the numbers below b
 module _
-    {w n b : ℕ} {parent sync kind source place at out : List ℕ} {s : Set} (held : Holds w n (HandedOn b parent sync kind source place (On w at)) out)
+    {w n b : ℕ} {parent sync kind source place : List ℕ} {at out : List (List ℕ)} {s : Set w} (held : Holds w n (HandedOn b parent sync kind source place (On w at)) out)
     (known : Is s (λ a. Then (Owning kind source) (Plus (ByEither parent sync)) a b × On w at a (get_or place b 0)))
     {a o : ℕ} (low : o < n)
   where
     pub taking_handed :
-        Taking (λ x. Owning kind source x b) (λ x. In s x × (x < 64 * w)) (On w out) a o
+        Taking (λ x. Owning kind source x b) (In s) (On w out) a o
         → HandedOn (b + 1) parent sync kind source place (On w at) a o
     taking_handed (kept x) =
         let h = held.only a o low x in
         record { of = h.of; low = omega (arith, h.low); owned = h.owned; before = h.before; one_place = h.one_place; differ = h.differ }
     taking_handed (new p q d) =
-        let k = known.only a q.0 in
+        let k = known.only a q in
         record { of = b; low = omega arith; owned = p; before = k.0; one_place = k.1; differ = d }
 
     pub handed_taking :
         HandedOn (b + 1) parent sync kind source place (On w at) a o
-        → Taking (λ x. Owning kind source x b) (λ x. In s x × (x < 64 * w)) (On w out) a o
+        → Taking (λ x. Owning kind source x b) (In s) (On w out) a o
     handed_taking h = by (ℕ_discrete h.of b)
       where
-        by : Dec (h.of ≡ b) → Taking (λ x. Owning kind source x b) (λ x. In s x × (x < 64 * w)) (On w out) a o
+        by : Dec (h.of ≡ b) → Taking (λ x. Owning kind source x b) (In s) (On w out) a o
         by (yes e) =
-            new (subst (Owning kind source o) e h.owned) (
-              known.all a (
-                subst (Then (Owning kind source) (Plus (ByEither parent sync)) a) e h.before,
-                subst (λ (z : ℕ). On w at a (get_or place z 0)) e h.one_place,
-              ),
-              h.one_place.col,
-            )
+            new (subst (Owning kind source o) e h.owned)
+            (known.all a (subst (Then (Owning kind source) (Plus (ByEither parent sync)) a) e h.before, subst (λ (z : ℕ). On w at a (get_or place z 0)) e h.one_place))
             h.differ
         by (no ne) =
             kept

@@ -27,7 +27,7 @@ module _ {order : List ℕ} {b : ℕ} where
 
 -- races with the writes so far, by the NA records so far
 module _
-    {w b : ℕ} {place kind order at na : List ℕ} {H C : Rel} (writes : Holds w 33 (WritesAt b kind place) at) (nas : Holds w 1 (OfOrder b order) na)
+    {w b : ℕ} {place kind order : List ℕ} {at na : List (List ℕ)} {H C : Rel} (writes : Holds w 33 (WritesAt b kind place) at) (nas : Holds w 1 (OfOrder b order) na)
     (low : get_or place b 0 < 33)
     {a : ℕ}
   where

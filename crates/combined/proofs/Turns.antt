@@ -2,9 +2,8 @@
 use mathlib.Core.Path.{sym, subst, ◌∙◌}
 use mathlib.Core.List.{List}
 use mathlib.Core.Logic.{◌⊎◌, inl, inr}
-use Prim.Native.Nat.{ℕ, ◌*◌, ◌<◌}
+use Prim.Native.Nat.{ℕ}
 use Rattle.laws.specs.Steps.{Rel}
-use Rattle.rows.specs.Rows.{On}
 use Rattle.rows.specs.Steps.{Leads}
 use Rattle.combined.specs.Sequential.{SamePlace, Turned, Turned.straight, Turned.around, Turned.above}
 
@@ -31,8 +30,3 @@ pub turned_parent : {parent place : List ℕ} {E A : Rel} {a b : ℕ} → Turned
 turned_parent (straight {p = p} k n e) = (p, k)
 turned_parent (around {p = p} k n e) = (p, k)
 turned_parent (above {p = p} k s u) = (p, k)
-
-pub turned_low : {w : ℕ} {parent place e r : List ℕ} {a b : ℕ} → Turned parent place (On w e) (On w r) a b → a < 64 * w
-turned_low (straight k n o) = o.col
-turned_low (around k n o) = o.col
-turned_low (above k s u) = turned_low u

@@ -2,7 +2,7 @@
 use mathlib.Core.Path.{◌≡◌}
 use mathlib.Core.List.{List}
 use mathlib.Core.Logic.{◌⊎◌, inl, inr}
-use Prim.Native.Nat.{ℕ, ◌*◌, ◌<◌}
+use Prim.Native.Nat.{ℕ}
 use lib.ListN.{get_or}
 use Rattle.laws.specs.Steps.{Rel}
 use Rattle.rows.specs.declared.set.Set.{Set}
@@ -28,6 +28,6 @@ module _ {place : List ℕ} {At H D W O : Rel} {a b : ℕ} {Other : Type 0} wher
 
 -- a row that was put but for its own number
 pub known_others :
-    {w b : ℕ} {s : Set} {over m m' : List ℕ} → Is s (λ a. On w over a b) → MadeRow w b (λ a. (In s a × (a < 64 * w)) × (¬ (a ≡ b))) m m'
+    {w b : ℕ} {s : Set w} {over m m' : List (List ℕ)} → Is s (λ a. On w over a b) → MadeRow w b (λ a. In s a × (¬ (a ≡ b))) m m'
     → MadeRow w b (λ a. On w over a b × (¬ (a ≡ b))) m m'
-known_others i = made_row_iff (λ a z. (i.only a z.0.0, z.1)) (λ a z. ((i.all a z.0, z.0.col), z.1))
+known_others i = made_row_iff (λ a z. (i.only a z.0, z.1)) (λ a z. (i.all a z.0, z.1))

@@ -1,8 +1,6 @@
 -- Races with earlier writes.
-use Rattle.std.specs.Prelude.{◌≡◌, List, ◌⊎◌, ℕ, ◌<◌, ◌≤◌, length, get_or}
+use Rattle.std.specs.Prelude.{◌≡◌, List, ◌⊎◌, ℕ, ◌<◌, ◌≤◌, get_or}
 use Rattle.laws.specs.Steps.{Rel}
-use Rattle.rows.specs.Rows.{Room}
-use Rattle.combined.specs.Columns.{Placed}
 
 -- a is an earlier write of b's place, one of them NA (the order 0), neither before b by H nor in conflict with it by C
 pub record RacesBefore (place kind order : List ℕ) (H C : Rel) (a b : ℕ) : Type 0 where
@@ -19,12 +17,3 @@ pub record RacesFrom (place order : List ℕ) (At Na H C : Rel) (a b : ℕ) : Ty
   pub not_atomic : Na a 0 ⊎ (get_or order b 0 ≡ 0)
   pub not_before : ¬ H a b
   pub no_conflict : ¬ C a b
-
--- columns and room for them
-pub record RaceRoom (w n : ℕ) (place order hb cf at na : List ℕ) : Type 0 where
-  pub placed : Placed n place
-  pub orders : n ≤ length order
-  pub for_hb : Room w n n hb
-  pub for_cf : Room w n n cf
-  pub for_at : Room w n 33 at
-  pub for_na : Room w n 1 na

@@ -1,9 +1,7 @@
 -- The steps among SC records, and what they are made of.
-use Rattle.std.specs.Prelude.{◌≡◌, List, ℕ, ◌<◌, ◌≤◌, length, get_or}
+use Rattle.std.specs.Prelude.{◌≡◌, List, ℕ, ◌<◌, get_or}
 use Rattle.laws.specs.Steps.{Rel}
-use Rattle.rows.specs.Rows.{Room}
 use Rattle.rows.specs.Steps.{Leads}
-use Rattle.combined.specs.Columns.{Placed}
 
 -- before b by P, and not At b's place
 pub record Elsewhere (place : List ℕ) (P At : Rel) (a b : ℕ) : Type 0 where
@@ -33,26 +31,3 @@ pub record Among (order place : List ℕ) (Of At H D W O : Rel) (a b : ℕ) : Ty
   pub sc_a : Of a 4
   pub sc_b : get_or order b 0 ≡ 4
   pub by : StepsBy place At H D W O a b
-
--- columns and room for them
-pub record ElsewhereRoom (w n : ℕ) (place po at out : List ℕ) : Type 0 where
-  pub placed : Placed n place
-  pub for_po : Room w n n po
-  pub for_at : Room w n 33 at
-  pub for_out : Room w n n out
-
-pub record TurningRoom (w n : ℕ) (parent place elsewhere around out : List ℕ) : Type 0 where
-  pub placed : Placed n place
-  pub parents : n ≤ length parent
-  pub for_elsewhere : Room w n n elsewhere
-  pub for_around : Room w n n around
-  pub for_out : Room w n n out
-
-pub record AmongRoom (w n : ℕ) (place orders at hb detour wb over : List ℕ) : Type 0 where
-  pub placed : Placed n place
-  pub for_orders : Room w n 5 orders
-  pub for_at : Room w n 33 at
-  pub for_hb : Room w n n hb
-  pub for_detour : Room w n n detour
-  pub for_wb : Room w n n wb
-  pub for_over : Room w n n over

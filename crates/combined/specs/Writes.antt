@@ -20,7 +20,7 @@ pub record HandedOn (n : ℕ) (parent sync kind source place : List ℕ) (At : R
   pub differ : ¬ (a ≡ o)
 
 -- no row has its own number
-pub record NoneItself (w n : ℕ) (m : List ℕ) : Type 0 where
+pub record NoneItself (w n : ℕ) (m : List (List ℕ)) : Type 0 where
   pub apart : (o : ℕ) → o < n → ¬ On w m o o
 
 -- as it was, or new in the row of an Owner, which is another
@@ -29,18 +29,18 @@ pub data Taking (Owner New : ℕ → Type 0) (Was : Rel) (a o : ℕ) : Type 0 wh
   new : Owner o → New a → ¬ (a ≡ o) → Taking Owner New Was a o
 
 -- row b of owners takes in each Owner, whose row of out takes in what is New
-pub record Handed (w n b : ℕ) (Owner New : ℕ → Type 0) (owners out owners' out' : List ℕ) : Type 0 where
+pub record Handed (w n b : ℕ) (Owner New : ℕ → Type 0) (owners out owners' out' : List (List ℕ)) : Type 0 where
   pub owned : MadeRow w b (λ o. On w owners o b ⊎ Owner o) owners owners'
   pub taken : Made w n (Taking Owner New (On w out)) out out'
 
 -- columns and room for them
-pub record OwningRoom (w n : ℕ) (kind source owners out : List ℕ) : Type 0 where
+pub record OwningRoom (w n : ℕ) (kind source : List ℕ) (owners out : List (List ℕ)) : Type 0 where
   pub kinds : n ≤ length kind
   pub sources : n ≤ length source
   pub for_owners : Room w n n owners
   pub for_out : Room w n n out
 
-pub record HandingRoom (w n : ℕ) (parent sync kind source place at owners out : List ℕ) : Type 0 where
+pub record HandingRoom (w n : ℕ) (parent sync kind source place : List ℕ) (at owners out : List (List ℕ)) : Type 0 where
   pub placed : Placed n place
   pub parents : n ≤ length parent
   pub syncs : n ≤ length sync

@@ -1,198 +1,138 @@
 // The steps among SC records.
-ghost use Rattle.std.specs.Prelude.{◌⊎◌, ◌<◌, ◌≤◌, length, get_or};
+ghost use Rattle.std.specs.Prelude.{◌⊎◌, ◌*◌, ◌<◌, ◌≤◌, length, get_or};
 ghost use Rattle.rows.specs.Sets.{Is};
-ghost use Rattle.rows.specs.Rows.{On, Holds, Room, MadeRow, Made};
-ghost use Rattle.combined.specs.Sequential.{Elsewhere, Turned, StepsBy, Among, ElsewhereRoom, TurningRoom, AmongRoom};
+ghost use Rattle.rows.specs.Rows.{On, Holds, MadeRow, Made};
+ghost use Rattle.combined.specs.Columns.{Placed};
+ghost use Rattle.combined.specs.Sequential.{Elsewhere, Turned, StepsBy, Among};
 
 use crate::others::put_others;
 use rows::row::{put, row};
-use rows::set::{Set, both, either, nothing, without};
+use rows::set::Set;
 
 // Of what po relates, what stands at another place.
-pub fn elsewhere(place: &[u8], po: &[u64], at: &[u64], out: &mut [u64], w: usize, n: usize)
-    requires { ElsewhereRoom w n place.now po.now at.now out.old }
-    ensures { Made w n (Elsewhere place.now (On w po.now) (On w at.now)) out.old out.new }
-{
-    if w == 1 {
-        elsewhere_by(place, po, at, out, 1, n);
-    } else if w == 2 {
-        elsewhere_by(place, po, at, out, 2, n);
-    } else {
-        elsewhere_by(place, po, at, out, 4, n);
-    }
-}
-
-// `elsewhere`, where the compiler knows the width.
-fn elsewhere_by(place: &[u8], po: &[u64], at: &[u64], out: &mut [u64], w: usize, n: usize)
-    requires { ElsewhereRoom w n place.now po.now at.now out.old }
-    ensures { Made w n (Elsewhere place.now (On w po.now) (On w at.now)) out.old out.new }
+pub fn elsewhere<const W: usize>(
+    place: &[u8],
+    po: &[[u64; W]],
+    at: &[[u64; W]],
+    out: &mut [[u64; W]],
+    n: usize,
+)
+    requires placed { Placed n place.now }
+    requires rows { (n ≤ length po.now) × (33 ≤ length at.now) × (n ≤ length out.old) }
+    ensures { Made W n (Elsewhere place.now (On W po.now) (On W at.now)) out.old out.new }
 {
     for b in 0..n {
-        put(
-            out,
-            w,
-            b,
-            without(row(po, w, b), row(at, w, place[b] as usize)),
-        );
+        put(out, b, row(po, b).without(row(at, place[b] as usize)));
     }
 }
 
 // Row b: as its parent's, where both stand at one place; else what is elsewhere before b, or comes around to its parent.
-fn turn(
+fn turn<const W: usize>(
     parent: &[u8],
     place: &[u8],
-    elsewhere: &[u64],
-    around: &[u64],
-    out: &[u64],
-    w: usize,
-    n: usize,
+    elsewhere: &[[u64; W]],
+    around: &[[u64; W]],
+    out: &[[u64; W]],
     b: usize,
-) -> Set
-    requires { (b < n) × TurningRoom w n parent.now place.now elsewhere.now around.now out.now × Holds w b (Turned parent.now place.now (On w elsewhere.now) (On w around.now)) out.now }
-    ensures { Is result (λ a. Turned parent.now place.now (On w elsewhere.now) (On w around.now) a b) }
+) -> Set<W>
+    requires columns { (b < length parent.now) × (b < length place.now) }
+    requires rows { (b < length elsewhere.now) × (b < length around.now) × (b < length out.now) }
+    requires held { Holds W b (Turned parent.now place.now (On W elsewhere.now) (On W around.now)) out.now }
+    ensures { Is result (λ a. Turned parent.now place.now (On W elsewhere.now) (On W around.now) a b) }
 {
     let p = parent[b] as usize;
     if p < b {
         if (place[p] == place[b]) & (place[b] < 32) {
-            return row(out, w, p);
+            return row(out, p);
         }
-        return either(row(elsewhere, w, b), row(around, w, p));
+        return row(elsewhere, b).or(row(around, p));
     }
-    nothing()
+    Set::nothing()
 }
 
-pub fn detours(
+pub fn detours<const W: usize>(
     parent: &[u8],
     place: &[u8],
-    elsewhere: &[u64],
-    around: &[u64],
-    out: &mut [u64],
-    w: usize,
+    elsewhere: &[[u64; W]],
+    around: &[[u64; W]],
+    out: &mut [[u64; W]],
     n: usize,
 )
-    requires { TurningRoom w n parent.now place.now elsewhere.now around.now out.old }
-    ensures { Made w n (Turned parent.now place.now (On w elsewhere.now) (On w around.now)) out.old out.new }
-{
-    if w == 1 {
-        detours_by(parent, place, elsewhere, around, out, 1, n);
-    } else if w == 2 {
-        detours_by(parent, place, elsewhere, around, out, 2, n);
-    } else {
-        detours_by(parent, place, elsewhere, around, out, 4, n);
-    }
-}
-
-// `detours`, where the compiler knows the width.
-fn detours_by(
-    parent: &[u8],
-    place: &[u8],
-    elsewhere: &[u64],
-    around: &[u64],
-    out: &mut [u64],
-    w: usize,
-    n: usize,
-)
-    requires { TurningRoom w n parent.now place.now elsewhere.now around.now out.old }
-    ensures { Made w n (Turned parent.now place.now (On w elsewhere.now) (On w around.now)) out.old out.new }
+    requires columns { (n ≤ length parent.now) × (n ≤ length place.now) }
+    requires rows { (n ≤ length elsewhere.now) × (n ≤ length around.now) × (n ≤ length out.old) }
+    ensures { Made W n (Turned parent.now place.now (On W elsewhere.now) (On W around.now)) out.old out.new }
 {
     for b in 0..n {
-        let turned = turn(parent, place, elsewhere, around, out, w, n, b);
-        put(out, w, b, turned);
+        let turned = turn(parent, place, elsewhere, around, out, b);
+        put(out, b, turned);
     }
 }
 
 // What steps to b among SC records, where row b of `others` has what is over b, but for b itself.
-fn steps_from(
+fn steps_from<const W: usize>(
     place: &[u8],
-    orders: &[u64],
-    at: &[u64],
-    hb: &[u64],
-    detour: &[u64],
-    wb: &[u64],
-    others: &[u64],
-    w: usize,
-    n: usize,
+    orders: &[[u64; W]],
+    at: &[[u64; W]],
+    hb: &[[u64; W]],
+    detour: &[[u64; W]],
+    wb: &[[u64; W]],
+    others: &[[u64; W]],
     b: usize,
-) -> Set
-    requires { (b < n) × AmongRoom w n place.now orders.now at.now hb.now detour.now wb.now others.now }
-    ensures { Is result (λ a. ((On w others.now a b ⊎ On w wb.now a b) ⊎ (On w detour.now a b ⊎ (On w hb.now a b × On w at.now a (get_or place.now b 0)))) × On w orders.now a 4) }
+) -> Set<W>
+    requires placed { (b < length place.now) × (get_or place.now b 0 < length at.now) }
+    requires rows { (4 < length orders.now) × (b < length hb.now) × (b < length detour.now) × (b < length wb.now) × (b < length others.now) }
+    ensures { Is result (λ a. ((On W others.now a b ⊎ On W wb.now a b) ⊎ (On W detour.now a b ⊎ (On W hb.now a b × On W at.now a (get_or place.now b 0)))) × On W orders.now a 4) }
 {
-    let by_writes = either(row(others, w, b), row(wb, w, b));
-    let at_one_place = both(row(hb, w, b), row(at, w, place[b] as usize));
-    let steps = either(by_writes, either(row(detour, w, b), at_one_place));
-    both(steps, row(orders, w, 4))
+    let by_writes = row(others, b).or(row(wb, b));
+    let at_one_place = row(hb, b).and(row(at, place[b] as usize));
+    let steps = by_writes.or(row(detour, b).or(at_one_place));
+    steps.and(row(orders, 4))
 }
 
 // Row b, of an SC record.
-fn steps_to(
+fn steps_to<const W: usize>(
     place: &[u8],
-    orders: &[u64],
-    at: &[u64],
-    hb: &[u64],
-    detour: &[u64],
-    wb: &[u64],
-    over: &[u64],
-    out: &mut [u64],
-    w: usize,
-    n: usize,
+    orders: &[[u64; W]],
+    at: &[[u64; W]],
+    hb: &[[u64; W]],
+    detour: &[[u64; W]],
+    wb: &[[u64; W]],
+    over: &[[u64; W]],
+    out: &mut [[u64; W]],
     b: usize,
 )
-    requires { (b < n) × AmongRoom w n place.now orders.now at.now hb.now detour.now wb.now over.now × Room w n n out.old }
-    ensures { MadeRow w b (λ a. On w orders.now a 4 × StepsBy place.now (On w at.now) (On w hb.now) (On w detour.now) (On w wb.now) (On w over.now) a b) out.old out.new }
+    requires placed { (b < 64 * W) × (b < length place.now) × (get_or place.now b 0 < length at.now) }
+    requires rows { (4 < length orders.now) × (b < length hb.now) × (b < length detour.now) × (b < length wb.now) × (b < length over.now) × (b < length out.old) }
+    ensures { MadeRow W b (λ a. On W orders.now a 4 × StepsBy place.now (On W at.now) (On W hb.now) (On W detour.now) (On W wb.now) (On W over.now) a b) out.old out.new }
 {
-    put_others(out, w, b, row(over, w, b));
-    let steps = steps_from(place, orders, at, hb, detour, wb, out, w, n, b);
-    put(out, w, b, steps);
+    put_others(out, b, row(over, b));
+    let steps = steps_from(place, orders, at, hb, detour, wb, out, b);
+    put(out, b, steps);
 }
 
 // Row 4 of `orders` has the SC records.
-pub fn among(
+pub fn among<const W: usize>(
     order: &[u8],
     place: &[u8],
-    orders: &[u64],
-    at: &[u64],
-    hb: &[u64],
-    detour: &[u64],
-    wb: &[u64],
-    over: &[u64],
-    out: &mut [u64],
-    w: usize,
+    orders: &[[u64; W]],
+    at: &[[u64; W]],
+    hb: &[[u64; W]],
+    detour: &[[u64; W]],
+    wb: &[[u64; W]],
+    over: &[[u64; W]],
+    out: &mut [[u64; W]],
     n: usize,
 )
-    requires { (n ≤ length order.now) × AmongRoom w n place.now orders.now at.now hb.now detour.now wb.now over.now × Room w n n out.old }
-    ensures { Made w n (Among order.now place.now (On w orders.now) (On w at.now) (On w hb.now) (On w detour.now) (On w wb.now) (On w over.now)) out.old out.new }
-{
-    if w == 1 {
-        among_by(order, place, orders, at, hb, detour, wb, over, out, 1, n);
-    } else if w == 2 {
-        among_by(order, place, orders, at, hb, detour, wb, over, out, 2, n);
-    } else {
-        among_by(order, place, orders, at, hb, detour, wb, over, out, 4, n);
-    }
-}
-
-// `among`, where the compiler knows the width.
-fn among_by(
-    order: &[u8],
-    place: &[u8],
-    orders: &[u64],
-    at: &[u64],
-    hb: &[u64],
-    detour: &[u64],
-    wb: &[u64],
-    over: &[u64],
-    out: &mut [u64],
-    w: usize,
-    n: usize,
-)
-    requires { (n ≤ length order.now) × AmongRoom w n place.now orders.now at.now hb.now detour.now wb.now over.now × Room w n n out.old }
-    ensures { Made w n (Among order.now place.now (On w orders.now) (On w at.now) (On w hb.now) (On w detour.now) (On w wb.now) (On w over.now)) out.old out.new }
+    requires columns { (n ≤ 64 * W) × (n ≤ length order.now) }
+    requires placed { Placed n place.now }
+    requires rows { (4 < length orders.now) × (33 ≤ length at.now) × (n ≤ length hb.now) × (n ≤ length detour.now) × (n ≤ length wb.now) × (n ≤ length over.now) × (n ≤ length out.old) }
+    ensures { Made W n (Among order.now place.now (On W orders.now) (On W at.now) (On W hb.now) (On W detour.now) (On W wb.now) (On W over.now)) out.old out.new }
 {
     for b in 0..n {
         if order[b] == 4 {
-            steps_to(place, orders, at, hb, detour, wb, over, out, w, n, b);
+            steps_to(place, orders, at, hb, detour, wb, over, out, b);
         } else {
-            put(out, w, b, nothing());
+            put(out, b, Set::nothing());
         }
     }
 }

@@ -1,124 +1,72 @@
 // Steps from write to write: what owns something before a record is handed on to the record's own owners.
-ghost use Rattle.std.specs.Prelude.{◌⊎◌, ◌≡◌, ◌*◌, ◌<◌};
+ghost use Rattle.std.specs.Prelude.{◌⊎◌, ◌≡◌, ◌*◌, ◌<◌, ◌≤◌, length};
 ghost use Rattle.rows.specs.Sets.{In, Is};
-ghost use Rattle.rows.specs.Rows.{On, Holds, HasRow, MadeRow, Made};
+ghost use Rattle.rows.specs.Rows.{On, MadeRow, Made};
 ghost use Rattle.rows.specs.Steps.{ByEither, Star, Then};
-ghost use Rattle.combined.specs.Writes.{Owning, HandedOn, NoneItself, Handed, OwningRoom, HandingRoom};
+ghost use Rattle.combined.specs.Writes.{Owning, HandedOn, NoneItself, Handed, HandingRoom};
 
 use crate::others::put_others;
 use rows::led::from_either;
 use rows::row::{add, put, row};
-use rows::set::{Set, both, either};
+use rows::set::Set;
 use rows::whole::clear;
 
 // Row `to` takes in the set, but for `to` itself.
-fn take_others(m: &mut [u64], w: usize, to: usize, set: Set)
-    requires { HasRow w m.old to × (to < 64 * w) }
-    ensures { MadeRow w to (λ a. (On w m.old a to ⊎ (In set a × (a < 64 * w))) × (¬ (a ≡ to))) m.old m.new }
+fn take_others<const W: usize>(m: &mut [[u64; W]], to: usize, set: &Set<W>)
+    requires { (to < 64 * W) × (to < length m.old) }
+    ensures { MadeRow W to (λ a. (On W m.old a to ⊎ In set.now a) × (¬ (a ≡ to))) m.old m.new }
 {
-    let joined = either(row(m, w, to), set);
-    put_others(m, w, to, joined);
+    let joined = row(m, to).or(*set);
+    put_others(m, to, joined);
 }
 
 // Row b of owners is completed by b's own owners, and these take in the set.
-fn hand_on(
+fn hand_on<const W: usize>(
     kind: &[u8],
     source: &[u8],
-    owners: &mut [u64],
-    out: &mut [u64],
-    w: usize,
+    owners: &mut [[u64; W]],
+    out: &mut [[u64; W]],
     n: usize,
     b: usize,
-    set: Set,
+    set: &Set<W>,
 )
-    requires { (b < n) × OwningRoom w n kind.now source.now owners.old out.old × NoneItself w n out.old }
-    ensures { Handed w n b (λ o. Owning kind.now source.now o b) (λ a. In set a × (a < 64 * w)) owners.old out.old owners.new out.new }
+    requires columns { (b < n) × (n ≤ length kind.now) × (n ≤ length source.now) }
+    requires rows { (n ≤ 64 * W) × (n ≤ length owners.old) × (n ≤ length out.old) }
+    requires none { NoneItself W n out.old }
+    ensures { Handed W n b (λ o. Owning kind.now source.now o b) (In set.now) owners.old out.old owners.new out.new }
 {
     if 2 <= kind[b] {
-        add(owners, w, b, b);
-        take_others(out, w, b, set);
+        add(owners, b, b);
+        take_others(out, b, set);
     }
     let s = source[b] as usize;
     if s < b {
-        add(owners, w, s, b);
-        take_others(out, w, s, set);
+        add(owners, s, b);
+        take_others(out, s, set);
     }
 }
 
 // What owns something that steps lead from to something that the row's number owns, at one place. In the end `owners` has what owns each
 // number or something before it.
-pub fn handed_on(
+pub fn handed_on<const W: usize>(
     parent: &[u8],
     sync: &[u8],
     kind: &[u8],
     source: &[u8],
     place: &[u8],
-    at: &[u64],
-    owners: &mut [u64],
-    out: &mut [u64],
-    w: usize,
+    at: &[[u64; W]],
+    owners: &mut [[u64; W]],
+    out: &mut [[u64; W]],
     n: usize,
 )
-    requires { HandingRoom w n parent.now sync.now kind.now source.now place.now at.now owners.old out.old }
-    ensures { Made w n (Then (Owning kind.now source.now) (Star (ByEither parent.now sync.now))) owners.old owners.new × Made w n (HandedOn n parent.now sync.now kind.now source.now place.now (On w at.now)) out.old out.new }
+    requires { HandingRoom W n parent.now sync.now kind.now source.now place.now at.now owners.old out.old }
+    ensures { Made W n (Then (Owning kind.now source.now) (Star (ByEither parent.now sync.now))) owners.old owners.new × Made W n (HandedOn n parent.now sync.now kind.now source.now place.now (On W at.now)) out.old out.new }
 {
-    clear(out, w, n, n);
-    fill_handed(parent, sync, kind, source, place, at, owners, out, w, n);
-}
-
-// The same, where `out` is empty yet.
-fn fill_handed(
-    parent: &[u8],
-    sync: &[u8],
-    kind: &[u8],
-    source: &[u8],
-    place: &[u8],
-    at: &[u64],
-    owners: &mut [u64],
-    out: &mut [u64],
-    w: usize,
-    n: usize,
-)
-    requires { HandingRoom w n parent.now sync.now kind.now source.now place.now at.now owners.old out.old × Holds w n (λ a o. ⊥) out.old }
-    ensures { Made w n (Then (Owning kind.now source.now) (Star (ByEither parent.now sync.now))) owners.old owners.new × Made w n (HandedOn n parent.now sync.now kind.now source.now place.now (On w at.now)) out.old out.new }
-{
-    if w == 1 {
-        fill_handed_by(parent, sync, kind, source, place, at, owners, out, 1, n);
-    } else if w == 2 {
-        fill_handed_by(parent, sync, kind, source, place, at, owners, out, 2, n);
-    } else {
-        fill_handed_by(parent, sync, kind, source, place, at, owners, out, 4, n);
-    }
-}
-
-// `fill_handed`, where the compiler knows the width.
-fn fill_handed_by(
-    parent: &[u8],
-    sync: &[u8],
-    kind: &[u8],
-    source: &[u8],
-    place: &[u8],
-    at: &[u64],
-    owners: &mut [u64],
-    out: &mut [u64],
-    w: usize,
-    n: usize,
-)
-    requires { HandingRoom w n parent.now sync.now kind.now source.now place.now at.now owners.old out.old × Holds w n (λ a o. ⊥) out.old }
-    ensures { Made w n (Then (Owning kind.now source.now) (Star (ByEither parent.now sync.now))) owners.old owners.new × Made w n (HandedOn n parent.now sync.now kind.now source.now place.now (On w at.now)) out.old out.new }
-{
+    clear(out, n);
     for b in 0..n {
-        let before = from_either(parent, sync, owners, w, n, b);
-        put(owners, w, b, before);
-        hand_on(
-            kind,
-            source,
-            owners,
-            out,
-            w,
-            n,
-            b,
-            both(before, row(at, w, place[b] as usize)),
-        );
+        let before = from_either(parent, sync, owners, b);
+        put(owners, b, before);
+        let handed = row(owners, b).and(row(at, place[b] as usize));
+        hand_on(kind, source, owners, out, n, b, &handed);
     }
 }

@@ -1,3 +1,2 @@
 -- What is proved of counting one table.
-pub mod Filling
 pub mod Answering

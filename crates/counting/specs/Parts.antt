@@ -1,11 +1,10 @@
 -- The figures of one table by what the judge answered.
-use Rattle.std.specs.Prelude.{map, ℕ, eqb}
+use Rattle.std.specs.Prelude.{map, ℕ, eqb, Result, Ok, Err}
 use Rattle.findings.specs.declared.Verdict.TheVariants.{Undefined, Inconsistent, Consistent}
 use Rattle.findings.specs.Family.{all_in_order, found_of, there}
+use Rattle.refusals.specs.declared.Refusal.{Refusal}
 use Rattle.refusals.specs.Numbers.{told}
 use Rattle.judge.specs.declared.Report.{Report}
-use Rattle.judge.specs.declared.Judged.{Judged}
-use Rattle.judge.specs.declared.Judged.TheVariants.{Refused, Reported}
 use Rattle.tally.specs.declared.Figures.{Figures}
 use Rattle.tally.specs.Figures.{one_if, numbers, same_verdict}
 
@@ -33,6 +32,6 @@ of_report x = record {
   largest = x.events;
 }
 
-abbrev pub of_judged : Judged → Figures
-of_judged (Refused r) = of_refused (told r).number
-of_judged (Reported x) = of_report x
+abbrev pub of_judged : Result Report Refusal → Figures
+of_judged (Err r) = of_refused (told r).number
+of_judged (Ok x) = of_report x

@@ -10,40 +10,23 @@ ghost use Rattle.counting.specs.Parts.{of_refused, of_report, of_judged};
 ghost use Rattle.counting.specs.Counting.{FiguresOfOne, WithTable};
 
 use findings::{Finding, Findings, Verdict};
-use judge::{Judged, Report, judge};
+use judge::{Report, judge};
 use limits::LIMIT;
-use tally::{Figures, NUMBERS};
-
-fn one_if(b: bool) -> usize
-    ensures { result ≡ one_if b }
-{
-    if b {
-        return 1;
-    }
-    0
-}
+use refusals::Refusal;
+use tally::{EACH_NUMBER, Figures, NUMBERS};
 
 // One for the number of a refusal.
 fn once_refused(number: usize) -> [usize; NUMBERS]
     ensures { result ≡ map (λ n. one_if (eqb number n)) numbers }
 {
-    let mut counts = [0; NUMBERS];
-    for place in 0..NUMBERS {
-        counts[place] = one_if(number == place + 1);
-    }
-    counts
+    EACH_NUMBER.map(|n| usize::from(number == n))
 }
 
 // One for each finding that was found.
 fn once_found(found: Findings) -> [usize; Finding::COUNT]
     ensures { result ≡ map (λ f. one_if (there (found_of found f))) all_in_order }
 {
-    let mut counts = [0; Finding::COUNT];
-    for place in 0..Finding::COUNT {
-        let one = found.of(Finding::at(place));
-        counts[place] = one_if(one.there());
-    }
-    counts
+    Finding::IN_ORDER.map(|f| usize::from(found.of(f).there()))
 }
 
 // The figures of a table refused with a number.
@@ -61,36 +44,6 @@ fn of_refused(number: usize) -> Figures
     }
 }
 
-fn is_consistent(verdict: Verdict) -> bool
-    ensures { result ≡ same_verdict Consistent verdict }
-{
-    match verdict {
-        Verdict::Undefined => false,
-        Verdict::Inconsistent => false,
-        Verdict::Consistent => true,
-    }
-}
-
-fn is_inconsistent(verdict: Verdict) -> bool
-    ensures { result ≡ same_verdict Inconsistent verdict }
-{
-    match verdict {
-        Verdict::Undefined => false,
-        Verdict::Inconsistent => true,
-        Verdict::Consistent => false,
-    }
-}
-
-fn is_undefined(verdict: Verdict) -> bool
-    ensures { result ≡ same_verdict Undefined verdict }
-{
-    match verdict {
-        Verdict::Undefined => true,
-        Verdict::Inconsistent => false,
-        Verdict::Consistent => false,
-    }
-}
-
 // The figures of a table that was judged.
 fn of_report(report: Report) -> Figures
     ensures { result ≡ of_report report }
@@ -101,22 +54,19 @@ fn of_report(report: Report) -> Figures
         tables: 1,
         refused: [0; NUMBERS],
         found: once_found(found),
-        consistent: one_if(is_consistent(verdict)),
-        inconsistent: one_if(is_inconsistent(verdict)),
-        undefined: one_if(is_undefined(verdict)),
+        consistent: usize::from(verdict == Verdict::Consistent),
+        inconsistent: usize::from(verdict == Verdict::Inconsistent),
+        undefined: usize::from(verdict == Verdict::Undefined),
         largest: report.events,
     }
 }
 
-fn of_judged(judged: Judged) -> Figures
+fn of_judged(judged: Result<Report, Refusal>) -> Figures
     ensures { result ≡ of_judged judged }
 {
     match judged {
-        Judged::Refused(r) => {
-            let told = r.told();
-            of_refused(told.number)
-        }
-        Judged::Reported(x) => of_report(x),
+        Ok(x) => of_report(x),
+        Err(r) => of_refused(r.told().number),
     }
 }
 

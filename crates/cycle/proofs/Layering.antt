@@ -2,7 +2,7 @@
 use mathlib.Core.Path.{◌≡◌, refl, subst}
 use mathlib.Core.List.{List, [], ◌∷◌}
 use mathlib.Core.Logic.{◌⊎◌, inl, inr, ⊎_elim}
-use Prim.Native.Nat.{ℕ, ◌+◌, ◌*◌, ◌≤◌, ◌<◌}
+use Prim.Native.Nat.{ℕ, ◌+◌, ◌≤◌, ◌<◌}
 use native.Mathlib.Omega.{arith}
 use native.Mathlib.Decide.{ℕ_discrete}
 use lib.ListN.{length}
@@ -12,7 +12,7 @@ use Rattle.rows.specs.declared.set.Set.{Set}
 use Rattle.rows.specs.Sets.{In, Is}
 use Rattle.rows.specs.Rows.{On, MadeRow}
 use Rattle.rows.specs.Found.{NextOf}
-use Rattle.rows.proofs.Rows.{made_row_iff, holds_more, holds_none}
+use Rattle.rows.proofs.Rows.{made_row_iff, holds_more}
 use Rattle.rows.proofs.Sets.{in_dec, is_iff, either_of}
 use Rattle.cycle.specs.Distances.{Reaches}
 use Rattle.cycle.specs.Rounds.{Step, Enters, Fewest, Upto, Layers, Back}
@@ -20,16 +20,13 @@ use Rattle.cycle.specs.Rounds.{Step, Enters, Fewest, Upto, Layers, Back}
 -- ---- what has a step to a number of a row
 
 -- to one of those before c
-pub record EntersBelow (w n : ℕ) (m layers : List ℕ) (e c a : ℕ) : Type 0 where
+pub record EntersBelow (w n : ℕ) (m layers : List (List ℕ)) (e c a : ℕ) : Type 0 where
   pub enters : Enters w n m layers e a
   pub below : enters.to < c
 
-module _ {w n e : ℕ} {m layers : List ℕ} where
-  pub enters_none : {x : Set} {r : ℕ} → NextOf w layers e 0 r → Is x (λ a. ⊥) → Is x (EntersBelow w n m layers e r)
-  enters_none f = is_iff (λ a z. absurd z) (λ a t. f.before t.enters.to (omega arith) t.below t.enters.on)
-
+module _ {w n e : ℕ} {m layers : List (List ℕ)} where
   pub enters_more :
-      {x y z : Set} {c r : ℕ} → c < n → On w layers c e → Is y (λ a. On w m a c) → NextOf w layers e (c + 1) r → Is z (λ a. In x a ⊎ In y a)
+      {x y z : Set w} {c r : ℕ} → c < n → On w layers c e → Is y (λ a. On w m a c) → NextOf w layers e (c + 1) r → Is z (λ a. In x a ⊎ In y a)
       → Is x (EntersBelow w n m layers e c) → Is z (EntersBelow w n m layers e r)
   enters_more {x} {y} {z} {c} {r} l o j f k i = is_iff (λ a. ⊎_elim (old a) (new a)) from (either_of i j k)
     where
@@ -45,7 +42,7 @@ module _ {w n e : ℕ} {m layers : List ℕ} where
           tri {C = EntersBelow w n m layers e c a ⊎ On w m a c} to c (λ h. inl (record { enters = t.enters; below = h })) (λ q. inr (subst (On w m a) q t.enters.step.on))
           (λ h. absurd (f.before to (omega arith) t.below t.enters.on))
 
-  pub enters_all : {x : Set} {c : ℕ} → n ≤ c → Is x (EntersBelow w n m layers e c) → Is x (Enters w n m layers e)
+  pub enters_all : {x : Set w} {c : ℕ} → n ≤ c → Is x (EntersBelow w n m layers e c) → Is x (Enters w n m layers e)
   enters_all h = is_iff (λ a t. t.enters) (λ a t. record { enters = t; below = omega (arith, t.step.row) })
 
 -- ---- the fewest steps to s
@@ -90,9 +87,6 @@ module _ {R : Rel} {s : ℕ} where
 
   -- ---- up to so many steps
 
-  pub upto_none : {a : ℕ} → ¬ Upto R s 0 a
-  upto_none u = omega (arith, u.few, u.reach.long)
-
   more_upto : {a k : ℕ} → Upto R s k a ⊎ Fewest R s (k + 1) a → Upto R s (k + 1) a
   more_upto (inl u) = record { steps = u.steps; few = omega (arith, u.few); reach = u.reach }
   more_upto {k = k} (inr f) = record { steps = k + 1; few = omega arith; reach = f.reach }
@@ -115,19 +109,19 @@ module _ {R : Rel} {s : ℕ} where
 
   -- ---- rows and sets of them
 
-  met_dec : {x : Set} {k : ℕ} → Is x (Upto R s k) → (a : ℕ) → Dec (Upto R s k a)
-  met_dec {x} {k} i a = by (in_dec x a)
+  met_dec : {W k : ℕ} {x : Set W} → Is x (Upto R s k) → (a : ℕ) → Dec (Upto R s k a)
+  met_dec {k = k} {x = x} i a = by (in_dec x a)
     where
       by : Dec (In x a) → Dec (Upto R s k a)
       by (yes h) = yes (i.only a h)
       by (no h) = no (λ u. h (i.all a u))
 
-  module _ {w e : ℕ} {layers : List ℕ} (made : Layers R w s (e + 1) layers) where
+  module _ {w e : ℕ} {layers : List (List ℕ)} (made : Layers R w s (e + 1) layers) where
     last_layer : (a : ℕ) → On w layers a e → Fewest R s (e + 1) a
     last_layer a = made.only a e (omega arith)
 
     -- what was met, with the last layer
-    pub met_more : {x y z : Set} → Is x (Upto R s e) → Is y (λ a. On w layers a e) → Is z (λ a. In x a ⊎ In y a) → Is z (Upto R s (e + 1))
+    pub met_more : {x y z : Set w} → Is x (Upto R s e) → Is y (λ a. On w layers a e) → Is z (λ a. In x a ⊎ In y a) → Is z (Upto R s (e + 1))
     met_more {x} {y} i j = is_iff (λ a. ⊎_elim (λ h. more_upto (inl (i.only a h))) (λ h. more_upto (inr (last_layer a (j.only a h)))))
         (λ a u. ⊎_elim {C = In x a ⊎ In y a} (λ h. inl (i.all a h)) (λ f. inr (j.all a (made.all a e (omega arith) f))) (upto_more (met_dec i a) u))
 
@@ -152,7 +146,7 @@ module _ {R : Rel} {s : ℕ} where
         made = λ h. absurd (omega arith);
       }
 
-      pub back_empty : {bound : ℕ} {x y : Set} → Is x (Upto R s e) → Is y (λ a. On w layers a e) → ((a : ℕ) → ¬ In y a) → Back R w s bound bound layers
+      pub back_empty : {bound : ℕ} {x y : Set w} → Is x (Upto R s e) → Is y (λ a. On w layers a e) → ((a : ℕ) → ¬ In y a) → Back R w s bound bound layers
       back_empty i j empty = record {
         high = omega arith;
         reach = λ h. absurd (omega arith);
@@ -167,7 +161,7 @@ module _ {R : Rel} {s : ℕ} where
 
 -- ---- steps between numbers that are alive
 
-module _ {w n : ℕ} {m alive : List ℕ} where
+module _ {w n : ℕ} {m alive : List (List ℕ)} where
   pub reach_alive : {s a k : ℕ} → Reaches (Step w n m alive) a s k → On w alive a 0
   reach_alive {s} {a} z = by z.by z.walk
     where
@@ -175,28 +169,17 @@ module _ {w n : ℕ} {m alive : List ℕ} where
       by [] v = v.left
       by (x ∷ xs) v = v.0.left
 
-  pub layers_first :
-      {s : ℕ} {x : Set} {before layers : List ℕ} → s < n → On w alive s 0 → Is x (λ a. On w m a s × On w alive a 0) → MadeRow w 0 (λ a. In x a × (a < 64 * w)) before layers
-      → Layers (Step w n m alive) w s 1 layers
-  layers_first {s} {x} l o i d = holds_more holds_none (made_row_iff (λ a z. to a (i.only a z.0)) (λ a f. from a (last_reach f.reach)) d)
-    where
-      to : (a : ℕ) → On w m a s × On w alive a 0 → Fewest (Step w n m alive) s 1 a
-      to a z = fewest_one (record { left = z.1; right = o; cell = record { row = l; on = z.0 } })
-
-      from : (a : ℕ) → Step w n m alive a s → In x a × (a < 64 * w)
-      from a r = (i.all a (r.cell.on, r.left), r.left.col)
-
   pub layers_more :
-      {s e : ℕ} {x : Set} {before layers : List ℕ} → Is x (λ a. (Enters w n m before e a × On w alive a 0) × (¬ Upto (Step w n m alive) s (e + 1) a))
-      → MadeRow w (e + 1) (λ a. In x a × (a < 64 * w)) before layers → Layers (Step w n m alive) w s (e + 1) before → Layers (Step w n m alive) w s (e + 1 + 1) layers
-  layers_more {s} {e} {x} {before} i d made = holds_more made (made_row_iff (λ a z. to a (i.only a z.0)) from d)
+      {s e : ℕ} {x : Set w} {before layers : List (List ℕ)} → Is x (λ a. (Enters w n m before e a × On w alive a 0) × (¬ Upto (Step w n m alive) s (e + 1) a))
+      → MadeRow w (e + 1) (In x) before layers → Layers (Step w n m alive) w s (e + 1) before → Layers (Step w n m alive) w s (e + 1 + 1) layers
+  layers_more {s} {e} {x} {before} i d made = holds_more made (made_row_iff (λ a z. to a (i.only a z)) from d)
     where
       to : (a : ℕ) → (Enters w n m before e a × On w alive a 0) × (¬ Upto (Step w n m alive) s (e + 1) a) → Fewest (Step w n m alive) s (e + 1 + 1) a
       to a ((t, o), new) =
           let f = made.only t.to e (omega arith) t.on in
           fewest_more (record { left = o; right = reach_alive f.reach; cell = t.step }) f new
 
-      from : (a : ℕ) → Fewest (Step w n m alive) s (e + 1 + 1) a → In x a × (a < 64 * w)
+      from : (a : ℕ) → Fewest (Step w n m alive) s (e + 1 + 1) a → In x a
       from a f =
           let (c, (r, g)) = fewest_next e f in
-          (i.all a ((record { to = c; step = r.cell; on = made.all c e (omega arith) g }, r.left), fewest_past f), r.left.col)
+          i.all a ((record { to = c; step = r.cell; on = made.all c e (omega arith) g }, r.left), fewest_past f)

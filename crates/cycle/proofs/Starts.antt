@@ -1,9 +1,9 @@
 -- The least start, the way from there, and the least cycle that they give.
+use Rattle.std.specs.Prelude.{Option, None, Some}
 use mathlib.Core.Path.{◌≡◌, refl, subst}
 use mathlib.Core.List.{List, [], ◌∷◌, ◌++◌}
 use mathlib.Core.Logic.{◌⊎◌, inl, inr, ⊎_elim, ⊎_map}
-use mathlib.Core.Option.{none, some}
-use Prim.Native.Nat.{ℕ, ◌+◌, ◌-◌, ◌*◌, ◌<◌, ◌≤◌}
+use Prim.Native.Nat.{ℕ, ◌+◌, ◌-◌, ◌<◌, ◌≤◌}
 use native.Mathlib.Omega.{arith}
 use native.Mathlib.Decide.{dec_lt}
 use lib.ListN.{length, length-append}
@@ -13,17 +13,15 @@ use Rattle.laws.specs.Tails.{LeastTail}
 use Rattle.laws.proofs.Steps.{Within}
 use Rattle.laws.proofs.Walks.{joined, least_closed_walk, cycle_fits}
 use Rattle.laws.proofs.Closure.{tri}
-use Rattle.rows.specs.declared.set.Set.{Set}
-use Rattle.rows.specs.Sets.{In, Is}
 use Rattle.rows.specs.Rows.{On, MadeRow}
 use Rattle.rows.specs.Found.{NextOf}
-use Rattle.rows.proofs.Along.{along_none, along_more}
+use Rattle.rows.proofs.Along.{along_more}
 use Rattle.cycle.specs.Distances.{Reaches}
 use Rattle.cycle.specs.Rounds.{Step, Fewest, Upto, Layers, Back, Chosen, StartOf, Rest, FirstStep}
 use Rattle.cycle.proofs.Layering.{reach_alive, last_reach, fewest_on, fewest_next}
 
 -- what a row has from lo on stands at the next number or past it
-from_next : {w b lo r : ℕ} {m : List ℕ} → NextOf w m b lo r → (a : ℕ) → On w m a b → lo ≤ a → r ≤ a
+from_next : {w b lo r : ℕ} {m : List (List ℕ)} → NextOf w m b lo r → (a : ℕ) → On w m a b → lo ≤ a → r ≤ a
 from_next {r = r} f a o h = by (dec_lt a r)
   where
     by : Dec (a < r) → r ≤ a
@@ -55,7 +53,7 @@ way_round {R} {a = a} y = record {
   long = omega (arith, length-append y.back (a ∷ y.there), y.long);
 }
 
-module _ {w s : ℕ} {alive rest : List ℕ} (q : Rest w alive rest s) (n : ℕ) (m : List ℕ) where
+module _ {w s : ℕ} {alive rest : List (List ℕ)} (q : Rest w alive rest s) (n : ℕ) (m : List (List ℕ)) where
   rest_walk : (a : ℕ) (xs : List ℕ) (b : ℕ) → Walk (Step w n m rest) a xs b → Walk (Step w n m alive) a xs b
   rest_walk a [] b r = record { left = (q.only a r.left).0; right = (q.only b r.right).0; cell = r.cell }
   rest_walk a (x ∷ xs) b (r, v) = (record { left = (q.only a r.left).0; right = (q.only x r.right).0; cell = r.cell }, rest_walk x xs b v)
@@ -83,15 +81,8 @@ module _ {w s : ℕ} {alive rest : List ℕ} (q : Rest w alive rest s) (n : ℕ)
       (λ y. let round = way_round y in below y.by y.low (reach_alive round) k (subst (Reaches (Step w n m alive) y.by y.by) z.long round))
       (ways s z.by s (omega arith) (omega arith) z.walk)
 
--- at first all that is alive
-pub rest_all : {w s : ℕ} {x : Set} {alive before rest : List ℕ} → Is x (λ a. On w alive a 0) → MadeRow w 0 (λ a. In x a × (a < 64 * w)) before rest → NextOf w alive 0 0 s → Rest w alive rest s
-rest_all i d f = record {
-  all = λ a o h. d.all a (i.all a o, o.col);
-  only = λ a o. let p = i.only a (d.only a o).0 in (p, from_next f a p (omega arith));
-}
-
 pub rest_less :
-    {w s t : ℕ} {alive rest rest' : List ℕ} → MadeRow w 0 (λ x. On w rest x 0 × (¬ (x ≡ s))) rest rest' → NextOf w alive 0 (s + 1) t
+    {w s t : ℕ} {alive rest rest' : List (List ℕ)} → MadeRow w 0 (λ x. On w rest x 0 × (¬ (x ≡ s))) rest rest' → NextOf w alive 0 (s + 1) t
     → Rest w alive rest s → Rest w alive rest' t
 rest_less d f q = record {
   all = λ a o h. let k = f.low in d.all a (q.all a o (omega arith), λ e. omega (arith, e));
@@ -101,34 +92,24 @@ rest_less d f q = record {
 -- ---- the start
 
 -- at is the first of all numbers before s from which the fewest steps lead back, and they are best
-pub record Sofar (w n : ℕ) (m alive : List ℕ) (best at s : ℕ) : Type 0 where
+pub record Sofar (w n : ℕ) (m alive : List (List ℕ)) (best : ℕ) (at : Option ℕ) (s : ℕ) : Type 0 where
   pub small : best ≤ n + 1
   pub few : (a : ℕ) → a < s → On w alive a 0 → (k : ℕ) → Reaches (Step w n m alive) a a k → best ≤ k
-  pub unset : n ≤ at → best ≡ n + 1
-  pub low : at < n → best ≤ n
-  pub reach : at < n → Reaches (Step w n m alive) at at best
-  pub first : (a k : ℕ) → a < at → at < n → Reaches (Step w n m alive) a a k → best < k
+  pub unset : at ≡ None → best ≡ n + 1
+  pub low : (t : ℕ) → at ≡ Some t → best ≤ n
+  pub reach : (t : ℕ) → at ≡ Some t → Reaches (Step w n m alive) t t best
+  pub first : (t : ℕ) → at ≡ Some t → (a k : ℕ) → a < t → Reaches (Step w n m alive) a a k → best < k
 
-module _ {w n : ℕ} {m alive : List ℕ} where
-  pub start_none : {s : ℕ} → NextOf w alive 0 0 s → Sofar w n m alive (n + 1) n s
-  start_none f = record {
-    small = omega arith;
-    few = along_none (λ a. (k : ℕ) → Reaches (Step w n m alive) a a k → n + 1 ≤ k) f;
-    unset = λ h. refl;
-    low = λ h. absurd (omega arith);
-    reach = λ h. absurd (omega arith);
-    first = λ a k l h. absurd (omega arith);
-  }
-
-  module _ {best at s r t : ℕ} {rest layers : List ℕ} (q : Rest w alive rest s) (b : Back (Step w n m rest) w s best r layers) (f : NextOf w alive 0 (s + 1) t) where
-    pub start_take : r < best → s < n → Sofar w n m alive best at s → Sofar w n m alive r s t
+module _ {w n : ℕ} {m alive : List (List ℕ)} where
+  module _ {best s r t : ℕ} {at : Option ℕ} {rest layers : List (List ℕ)} (q : Rest w alive rest s) (b : Back (Step w n m rest) w s best r layers) (f : NextOf w alive 0 (s + 1) t) where
+    pub start_take : r < best → s < n → Sofar w n m alive best at s → Sofar w n m alive r (Some s) t
     start_take l h p = record {
       small = omega (arith, p.small);
       few = along_more (λ a. (k : ℕ) → Reaches (Step w n m alive) a a k → r ≤ k) (λ a g o k z. omega (arith, p.few a g o k z)) (λ o k z. ⊎_elim (λ h. h) (λ h. omega arith) (few_by q n m p.few b.few k z)) f;
-      unset = λ g. absurd (omega arith);
-      low = λ g. omega (arith, p.small);
-      reach = λ g. rest_reach q n m (b.reach l);
-      first = λ a k g _ z. omega (arith, p.few a g (reach_alive z) k z);
+      unset = λ e. cc;
+      low = λ u e. omega (arith, p.small);
+      reach = λ u e. let i : s ≡ u = cc in subst (λ (x : ℕ). Reaches (Step w n m alive) x x r) i (rest_reach q n m (b.reach l));
+      first = λ u e a k g z. let i : s ≡ u = cc in omega (arith, p.few a (omega arith) (reach_alive z) k z);
     }
 
     pub start_keep : best ≤ r → Sofar w n m alive best at s → Sofar w n m alive best at t
@@ -142,10 +123,10 @@ module _ {w n : ℕ} {m alive : List ℕ} where
     }
 
   module _ (low : (a : ℕ) → On w alive a 0 → a < n) where
-    pub start_end : {best at s : ℕ} → n ≤ s → Sofar w n m alive best at s → StartOf (Step w n m alive) n at
-    start_end {best} {at} {s} l p = record {
+    pub start_end : {best s : ℕ} {at : Option ℕ} → n ≤ s → Sofar w n m alive best at s → StartOf (Step w n m alive) n at
+    start_end {best} {s} {at} l p = record {
       none = λ h a k z. omega (arith, few a k z, p.unset h);
-      there = λ h. record { best = best; small = p.low h; reach = p.reach h; few = few; first = λ a k g z. p.first a k g h z };
+      there = λ t e. record { best = best; small = p.low t e; reach = p.reach t e; few = few; first = λ a k g z. p.first t e a k g z };
     }
       where
         few : (a k : ℕ) → Reaches (Step w n m alive) a a k → best ≤ k
@@ -154,7 +135,7 @@ module _ {w n : ℕ} {m alive : List ℕ} where
     step_within : Within n (Step w n m alive)
     step_within = record { left = λ r. low _ r.left; right = λ r. r.cell.row }
 
-    pub no_start : {s : ℕ} → n ≤ s → StartOf (Step w n m alive) n s → LeastCycle (Step w n m alive) none
+    pub no_start : {start : Option ℕ} → start ≡ None → StartOf (Step w n m alive) n start → LeastCycle (Step w n m alive) None
     no_start h f = Least.absent no_cycle
       where
         no_cycle : (c : List ℕ) → ¬ IsCycle (Step w n m alive) c
@@ -163,7 +144,7 @@ module _ {w n : ℕ} {m alive : List ℕ} where
 
 -- the least closed walk from the start is the least cycle
 pub start_found :
-    {R : Rel} {n s len : ℕ} {l : List ℕ} → Chosen R n s → ((k : ℕ) → Reaches R s s k → len ≤ k) → LeastTail R s s len l → LeastCycle R (some (s ∷ l))
+    {R : Rel} {n s len : ℕ} {l : List ℕ} → Chosen R n s → ((k : ℕ) → Reaches R s s k → len ≤ k) → LeastTail R s s len l → LeastCycle R (Some (s ∷ l))
 start_found {R} {n} {s} {len} f few t =
     least_closed_walk R t (λ a xs v. omega (arith, short, f.few a (length xs + 1) (reach_of xs v))) (λ a xs v e. first a xs v e (dec_lt a s))
   where
@@ -183,7 +164,7 @@ pub record Left (R : Rel) (s len a i : ℕ) : Type 0 where
   pub fewest : Fewest R s steps a
 
 -- from s itself all are left
-module _ {R : Rel} {w n s r : ℕ} {layers : List ℕ} (b : Back R w s (n + 1) r layers) (u : Upto R s n s) where
+module _ {R : Rel} {w n s r : ℕ} {layers : List (List ℕ)} (b : Back R w s (n + 1) r layers) (u : Upto R s n s) where
   pub back_short : r < n + 1
   back_short = omega (arith, b.few u.steps u.reach, u.few)
 
@@ -197,7 +178,7 @@ module _ {R : Rel} {w n s r : ℕ} {layers : List ℕ} (b : Back R w s (n + 1) r
 pub left_one : {R : Rel} {s len a : ℕ} → Left R s len a len → R a s
 left_one {R} {s} {len} {a} p = last_reach (subst (Reaches R a s) (omega (arith, p.is)) p.fewest.reach)
 
-module _ {w n s len a i x : ℕ} {m alive layers : List ℕ} (b : Back (Step w n m alive) w s (n + 1) len layers) (u : Upto (Step w n m alive) s n s) (l : i < len) (p : Left (Step w n m alive) s len a i)
+module _ {w n s len a i x : ℕ} {m alive layers : List (List ℕ)} (b : Back (Step w n m alive) w s (n + 1) len layers) (u : Upto (Step w n m alive) s n s) (l : i < len) (p : Left (Step w n m alive) s len a i)
     (f : FirstStep w n m layers (len - i - 1) a x) where
   made : Layers (Step w n m alive) w s len layers
   made = b.made (back_short b u)

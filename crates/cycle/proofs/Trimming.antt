@@ -1,9 +1,9 @@
 -- What is on a cycle has something on a cycle before it and after it: dropping what has not keeps every cycle.
+use Rattle.std.specs.Prelude.{None}
 use mathlib.Core.Path.{◌≡◌, refl, sym, subst}
 use mathlib.Core.List.{List, [], ◌∷◌}
-use mathlib.Core.Logic.{◌⊎◌, inl, inr, ⊎_elim}
-use mathlib.Core.Option.{none}
-use Prim.Native.Nat.{ℕ, ◌+◌, ◌*◌, ◌≤◌, ◌<◌}
+use mathlib.Core.Logic.{◌⊎◌, inl, inr}
+use Prim.Native.Nat.{ℕ, ◌+◌, ◌≤◌, ◌<◌}
 use native.Mathlib.Omega.{arith}
 use native.Mathlib.Decide.{dec_lt}
 use Rattle.laws.specs.Steps.{Rel, Plus, Plus.one, Plus.more, Walk, IsCycle}
@@ -18,7 +18,7 @@ use Rattle.rows.specs.declared.set.Set.{Set}
 use Rattle.rows.specs.Sets.{In, Is}
 use Rattle.rows.specs.Rows.{On, Cell, MadeRow}
 use Rattle.rows.specs.Found.{NextOf}
-use Rattle.cycle.specs.Trimmed.{Filled, Keeps, Feeds}
+use Rattle.cycle.specs.Trimmed.{Keeps, Feeds}
 use Rattle.cycle.specs.Rounds.{Step}
 
 module _ {R : Rel} where
@@ -49,36 +49,19 @@ module _ {R : Rel} where
   rising n a b r = by_dec (dec_lt a b) (λ h. n (b, (a, (r, omega arith))))
 
   -- and there is no cycle
-  pub none_back : ¬ ((b : ℕ) × ((a : ℕ) × (R a b × (b ≤ a)))) → LeastCycle R none
+  pub none_back : ¬ ((b : ℕ) × ((a : ℕ) × (R a b × (b ≤ a)))) → LeastCycle R None
   none_back n = Least.absent no_cycle
     where
       no_cycle : (c : List ℕ) → ¬ IsCycle R c
       no_cycle [] c = c
       no_cycle (a ∷ xs) c = omega (arith, plus_rises (rising n) (walk_plus R a xs a c.1))
 
--- ---- the numbers below n
-
-pub filled_none : {w : ℕ} {x : Set} {before alive : List ℕ} → Is x (λ a. ⊥) → MadeRow w 0 (λ a. In x a × (a < 64 * w)) before alive → Filled w 0 alive
-filled_none i d = record { all = λ a l. absurd (omega arith); only = λ a o. absurd (i.only a (d.only a o).0) }
-
-pub filled_more : {w n : ℕ} {before alive : List ℕ} → MadeRow w 0 (λ x. On w before x 0 ⊎ (x ≡ n)) before alive → Filled w n before → Filled w (n + 1) alive
-filled_more {w} {n} {before} d f = record {
-  all = λ a l. d.all a (tri {C = On w before a 0 ⊎ (a ≡ n)} a n (λ h. inl (f.all a h)) inr (λ h. absurd (omega arith)));
-  only = λ a o. ⊎_elim (λ h. omega (arith, f.only a h)) (λ e. omega (arith, e)) (d.only a o);
-}
-
 -- ---- what is dropped
 
-module _ {w n : ℕ} {m : List ℕ} where
-  pub keeps_all : {alive : List ℕ} → Filled w n alive → Keeps w n m alive
-  keeps_all f = record { low = f.only; cycles = λ a q. f.all a (before_on_cycle q).1.0.row }
-
-  pub feeds_none : {alive : List ℕ} {s : Set} {r : ℕ} → Keeps w n m alive → NextOf w alive 0 0 r → Feeds w n m r alive s
-  feeds_none k f = record { keeps = k; all = λ a c l q. absurd (f.before c (omega arith) l (k.cycles c q)) }
-
+module _ {w n : ℕ} {m : List (List ℕ)} where
   -- b is dropped, since nothing alive leads to it
   pub feeds_drop :
-      {alive alive' : List ℕ} {s : Set} {b : ℕ} → ((a : ℕ) → ¬ (On w m a b × On w alive a 0))
+      {alive alive' : List (List ℕ)} {s : Set w} {b : ℕ} → ((a : ℕ) → ¬ (On w m a b × On w alive a 0))
       → MadeRow w 0 (λ x. On w alive x 0 × (¬ (x ≡ b))) alive alive' → Feeds w n m b alive s → Feeds w n m (b + 1) alive' s
   feeds_drop {alive} {alive'} {s} {b} unfed d f = record {
     keeps = record { low = λ a o. f.keeps.low a (d.only a o).0; cycles = λ a q. d.all a (f.keeps.cycles a q, other a q) };
@@ -90,37 +73,34 @@ module _ {w n : ℕ} {m : List ℕ} where
 
   -- what leads to b is taken in
   pub feeds_take :
-      {alive : List ℕ} {s t x : Set} {b : ℕ} → Is x (λ a. On w m a b) → Is t (λ a. In s a ⊎ In x a) → Feeds w n m b alive s → Feeds w n m (b + 1) alive t
+      {alive : List (List ℕ)} {s t x : Set w} {b : ℕ} → Is x (λ a. On w m a b) → Is t (λ a. In s a ⊎ In x a) → Feeds w n m b alive s → Feeds w n m (b + 1) alive t
   feeds_take {x = x} {b = b} i j f = record {
     keeps = f.keeps;
     all = λ a c l q r. j.all a (tri {C = In _ a ⊎ In x a} c b (λ h. inl (f.all a c h q r)) (λ e. inr (i.all a (subst (On w m a) e r.on))) (λ h. absurd (omega arith)));
   }
 
-  pub feeds_next : {alive : List ℕ} {s : Set} {lo r : ℕ} → NextOf w alive 0 lo r → Feeds w n m lo alive s → Feeds w n m r alive s
+  pub feeds_next : {alive : List (List ℕ)} {s : Set w} {lo r : ℕ} → NextOf w alive 0 lo r → Feeds w n m lo alive s → Feeds w n m r alive s
   feeds_next {s = s} {lo = lo} {r = r} g f = record { keeps = f.keeps; all = λ a c l q. by a c l q (dec_lt c lo) }
     where
       by : (a c : ℕ) → c < r → Plus (Cell w n m) c c → Dec (c < lo) → Cell w n m a c → In s a
       by a c l q (yes h) = f.all a c h q
       by a c l q (no h) = absurd (g.before c (omega arith) l (f.keeps.cycles c q))
 
-  pub feeds_end : {alive : List ℕ} {s : Set} {b : ℕ} → n ≤ b → Feeds w n m b alive s → Feeds w n m n alive s
-  feeds_end h f = record { keeps = f.keeps; all = λ a c l. f.all a c (omega arith) }
-
   -- what leads to nothing on a cycle is dropped
   pub keeps_fed :
-      {alive alive' : List ℕ} {s x : Set} → Feeds w n m n alive s → Is x (λ a. On w alive a 0 × In s a) → MadeRow w 0 (λ a. In x a × (a < 64 * w)) alive alive'
+      {alive alive' : List (List ℕ)} {s x : Set w} → Feeds w n m n alive s → Is x (λ a. On w alive a 0 × In s a) → MadeRow w 0 (In x) alive alive'
       → Keeps w n m alive'
-  keeps_fed {alive} {alive'} f i d = record { low = λ a o. f.keeps.low a (i.only a (d.only a o).0).0; cycles = cycles }
+  keeps_fed {alive} {alive'} f i d = record { low = λ a o. f.keeps.low a (i.only a (d.only a o)).0; cycles = cycles }
     where
       cycles : (a : ℕ) → Plus (Cell w n m) a a → On w alive' a 0
       cycles a q =
           let (c, (r, s)) = after_on_cycle q in
           let o = f.keeps.cycles a q in
-          d.all a (i.all a (o, f.all a c r.row s r), o.col)
+          d.all a (i.all a (o, f.all a c r.row s r))
 
   -- ---- cycles are kept
 
-  module _ {alive : List ℕ} (k : Keeps w n m alive) where
+  module _ {alive : List (List ℕ)} (k : Keeps w n m alive) where
     walk_kept : (x : ℕ) (xs : List ℕ) (b : ℕ) → Walk (Cell w n m) x xs b → Plus (Cell w n m) b x → Walk (Step w n m alive) x xs b
     walk_kept x [] b r back = record { left = k.cycles x (plus_trans (one r) back); right = k.cycles b (more back r); cell = r }
     walk_kept x (y ∷ ys) b (r, v) back =
@@ -134,5 +114,5 @@ module _ {w n : ℕ} {m : List ℕ} where
     pub witness_kept : (v : Witness) → CycleWith (IsCycle (Cell w n m)) v → CycleWith (IsCycle (Step w n m alive)) v
     witness_kept v (cycle_with {c = c} z) = cycle_with (cycle_kept c z)
 
-  pub witness_was : {alive : List ℕ} (v : Witness) → CycleWith (IsCycle (Step w n m alive)) v → CycleWith (IsCycle (Cell w n m)) v
+  pub witness_was : {alive : List (List ℕ)} (v : Witness) → CycleWith (IsCycle (Step w n m alive)) v → CycleWith (IsCycle (Cell w n m)) v
   witness_was v (cycle_with {c = c} z) = cycle_with (cycle_to (λ a b s. s.cell) c z)

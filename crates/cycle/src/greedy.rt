@@ -6,68 +6,72 @@ use crate::layers::steps_back;
 use rows::row::{drop, has, put, row};
 use rows::search::next;
 
-// The first number with the fewest steps back to itself, or n. A number that was tried is left out from then on: whatever leads back by way
+// The first number with the fewest steps back to itself, if there is one. A number that was tried is left out from then on: whatever leads back by way
 // of it was met. `rest` is room for a row.
-pub fn least_start(
-    m: &[u64],
-    w: usize,
+pub fn least_start<const W: usize>(
+    m: &[[u64; W]],
     n: usize,
-    alive: &[u64],
-    rest: &mut [u64],
-    layers: &mut [u64],
-) -> usize
-    requires { LayerRoom w n m.now alive.now layers.old × Room w n 1 rest.old }
-    ensures { StartOf (Step w n m.now alive.now) n result }
+    alive: &[[u64; W]],
+    rest: &mut [[u64; W]],
+    layers: &mut [[u64; W]],
+) -> Option<usize>
+    requires { LayerRoom W n m.now alive.now layers.old × Room W n 1 rest.old }
+    ensures { StartOf (Step W n m.now alive.now) n result }
 {
-    put(rest, w, 0, row(alive, w, 0));
+    put(rest, 0, row(alive, 0));
     let mut best = n + 1;
-    let mut at = n;
-    let mut s = next(alive, w, 0, 0);
+    let mut at = None;
+    let mut s = next(alive, 0, 0);
     while s < n {
-        let len = steps_back(m, w, n, rest, s, best, layers);
+        let len = steps_back(m, n, rest, s, best, layers);
         if len < best {
             best = len;
-            at = s;
+            at = Some(s);
         }
-        drop(rest, w, s, 0);
-        s = next(alive, w, 0, s + 1);
+        drop(rest, s, 0);
+        s = next(alive, 0, s + 1);
     }
     at
 }
 
 // The first number of row e that a has a step to, or n.
-fn next_of(m: &[u64], w: usize, n: usize, layers: &[u64], e: usize, a: usize) -> usize
-    requires { Choosing w n m.now layers.now e a }
-    ensures { FirstStep w n m.now layers.now e a result }
+fn next_of<const W: usize>(
+    m: &[[u64; W]],
+    n: usize,
+    layers: &[[u64; W]],
+    e: usize,
+    a: usize,
+) -> usize
+    requires { Choosing W n m.now layers.now e a }
+    ensures { FirstStep W n m.now layers.now e a result }
 {
-    let mut x = next(layers, w, e, 0);
+    let mut x = next(layers, e, 0);
     while x < n {
-        if has(m, w, a, x) {
+        if has(m, a, x) {
             return x;
         }
-        x = next(layers, w, e, x + 1);
+        x = next(layers, e, x + 1);
     }
     n
 }
 
 // The least cycle from s, at the front of `out`. Returns how many records it has.
-pub fn write_cycle(
-    m: &[u64],
-    w: usize,
+pub fn write_cycle<const W: usize>(
+    m: &[[u64; W]],
     n: usize,
-    alive: &[u64],
+    alive: &[[u64; W]],
     s: usize,
-    layers: &mut [u64],
+    layers: &mut [[u64; W]],
     out: &mut [u8],
 ) -> usize
-    requires { Writes w n m.now alive.now s layers.old out.old }
-    ensures { WroteBack (Step w n m.now alive.now) s result out.old out.new }
+    requires { Writes W n m.now alive.now s layers.old out.old }
+    ensures { WroteBack (Step W n m.now alive.now) s result out.old out.new }
 {
-    let len = steps_back(m, w, n, alive, s, n + 1, layers);
+    let len = steps_back(m, n, alive, s, n + 1, layers);
     out[0] = s as u8;
     let mut a = s;
     for i in 1..len {
-        a = next_of(m, w, n, layers, len - i - 1, a);
+        a = next_of(m, n, layers, len - i - 1, a);
         out[i] = a as u8;
     }
     len

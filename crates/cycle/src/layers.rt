@@ -1,102 +1,84 @@
 // The fewest steps back to a number by layers: row e of `layers` has the numbers from which the fewest steps to it are e + 1.
-ghost use Rattle.std.specs.Prelude.{◌+◌, ◌≤◌};
+ghost use Rattle.std.specs.Prelude.{◌+◌, ◌<◌, ◌≤◌, length};
 ghost use Rattle.rows.specs.Sets.{Is};
-ghost use Rattle.rows.specs.Rows.{Room, HasRow};
+ghost use Rattle.rows.specs.Rows.{Room};
 ghost use Rattle.cycle.specs.Rounds.{Step, Enters, Layers, Searches, Onward, Back};
 
 use rows::row::{has, put, row};
 use rows::search::next;
-use rows::set::{Set, both, either, is_empty, nothing, without};
+use rows::set::Set;
 
 // What has a step to a number of row e.
-fn leading_in(m: &[u64], w: usize, n: usize, layers: &[u64], e: usize) -> Set
-    requires { Room w n n m.now × HasRow w layers.now e }
-    ensures { Is result (Enters w n m.now layers.now e) }
+fn leading_in<const W: usize>(m: &[[u64; W]], n: usize, layers: &[[u64; W]], e: usize) -> Set<W>
+    requires { Room W n n m.now × (e < length layers.now) }
+    ensures { Is result (Enters W n m.now layers.now e) }
 {
-    let mut found = nothing();
-    let mut c = next(layers, w, e, 0);
+    let mut found = Set::nothing();
+    let mut c = next(layers, e, 0);
     while c < n {
-        found = either(found, row(m, w, c));
-        c = next(layers, w, e, c + 1);
+        found = found.or(row(m, c));
+        c = next(layers, e, c + 1);
     }
     found
 }
 
 // The first layer: what has a step to s.
-fn first_layer(m: &[u64], w: usize, n: usize, alive: &[u64], s: usize, layers: &mut [u64])
-    requires { Searches w n m.now alive.now s layers.old }
-    ensures { Layers (Step w n m.now alive.now) w s 1 layers.new }
+fn first_layer<const W: usize>(
+    m: &[[u64; W]],
+    n: usize,
+    alive: &[[u64; W]],
+    s: usize,
+    layers: &mut [[u64; W]],
+)
+    requires { Searches W n m.now alive.now s layers.old }
+    ensures { Layers (Step W n m.now alive.now) W s 1 layers.new }
 {
-    put(layers, w, 0, both(row(m, w, s), row(alive, w, 0)));
+    put(layers, 0, row(m, s).and(row(alive, 0)));
 }
 
 // One layer more: what has a step to the last one and was not met up to there.
-fn next_layer(
-    m: &[u64],
-    w: usize,
+fn next_layer<const W: usize>(
+    m: &[[u64; W]],
     n: usize,
-    alive: &[u64],
-    met: Set,
+    alive: &[[u64; W]],
+    met: &Set<W>,
     s: usize,
     e: usize,
-    layers: &mut [u64],
+    layers: &mut [[u64; W]],
 )
-    requires { Onward w n m.now alive.now met s e layers.old }
-    ensures { Layers (Step w n m.now alive.now) w s (e + 1 + 1) layers.new }
+    requires { Onward W n m.now alive.now met.now s e layers.old }
+    ensures { Layers (Step W n m.now alive.now) W s (e + 1 + 1) layers.new }
 {
-    let before = both(leading_in(m, w, n, layers, e), row(alive, w, 0));
-    put(layers, w, e + 1, without(before, met));
+    let before = leading_in(m, n, layers, e).and(row(alive, 0));
+    put(layers, e + 1, before.without(*met));
 }
 
 // The fewest steps from s back to s, if they are fewer than the bound, else the bound.
-pub fn steps_back(
-    m: &[u64],
-    w: usize,
+pub fn steps_back<const W: usize>(
+    m: &[[u64; W]],
     n: usize,
-    alive: &[u64],
+    alive: &[[u64; W]],
     s: usize,
     bound: usize,
-    layers: &mut [u64],
+    layers: &mut [[u64; W]],
 ) -> usize
-    requires { Searches w n m.now alive.now s layers.old × (bound ≤ n + 1) }
-    ensures { Back (Step w n m.now alive.now) w s bound result layers.new }
+    requires { Searches W n m.now alive.now s layers.old × (bound ≤ n + 1) }
+    ensures { Back (Step W n m.now alive.now) W s bound result layers.new }
 {
-    if w == 1 {
-        return steps_back_by(m, 1, n, alive, s, bound, layers);
-    }
-    if w == 2 {
-        return steps_back_by(m, 2, n, alive, s, bound, layers);
-    }
-    steps_back_by(m, 4, n, alive, s, bound, layers)
-}
-
-// `steps_back`, where the compiler knows the width.
-fn steps_back_by(
-    m: &[u64],
-    w: usize,
-    n: usize,
-    alive: &[u64],
-    s: usize,
-    bound: usize,
-    layers: &mut [u64],
-) -> usize
-    requires { Searches w n m.now alive.now s layers.old × (bound ≤ n + 1) }
-    ensures { Back (Step w n m.now alive.now) w s bound result layers.new }
-{
-    first_layer(m, w, n, alive, s, layers);
-    let mut met = nothing();
+    first_layer(m, n, alive, s, layers);
+    let mut met = Set::nothing();
     let mut e: usize = 0;
     while e + 1 < bound {
-        if has(layers, w, s, e) {
+        if has(layers, s, e) {
             return e + 1;
         }
-        let last = row(layers, w, e);
-        if is_empty(last) {
+        let last = &row(layers, e);
+        if last.is_empty() {
             return bound;
         }
-        met = either(met, last);
-        next_layer(m, w, n, alive, met, s, e, layers);
-        e = e + 1;
+        met = met.or(*last);
+        next_layer(m, n, alive, &met, s, e, layers);
+        e += 1;
     }
     bound
 }

@@ -18,26 +18,12 @@ use findings::Found;
 use rows::search::next;
 
 // Whether some step goes from a number to one that is not higher.
-pub fn goes_back(m: &[u64], w: usize, n: usize) -> bool
-    requires { Room w n n m.now }
-    ensures { Says result (GoesBack w n m.now) }
-{
-    if w == 1 {
-        return goes_back_by(m, 1, n);
-    }
-    if w == 2 {
-        return goes_back_by(m, 2, n);
-    }
-    goes_back_by(m, 4, n)
-}
-
-// `goes_back`, where the compiler knows the width.
-fn goes_back_by(m: &[u64], w: usize, n: usize) -> bool
-    requires { Room w n n m.now }
-    ensures { Says result (GoesBack w n m.now) }
+pub fn goes_back<const W: usize>(m: &[[u64; W]], n: usize) -> bool
+    requires { Room W n n m.now }
+    ensures { Says result (GoesBack W n m.now) }
 {
     for b in 0..n {
-        if next(m, w, b, b) < 64 * w {
+        if next(m, b, b) < 64 * W {
             return true;
         }
     }
@@ -45,42 +31,38 @@ fn goes_back_by(m: &[u64], w: usize, n: usize) -> bool
 }
 
 // The least cycle among the numbers that are alive, at the front of `out`.
-fn least_cycle_among(
-    m: &[u64],
-    w: usize,
+fn least_cycle_among<const W: usize>(
+    m: &[[u64; W]],
     n: usize,
-    alive: &[u64],
-    layers: &mut [u64],
+    alive: &[[u64; W]],
+    layers: &mut [[u64; W]],
     out: &mut [u8],
 ) -> Found
-    requires { LendsAlive w n m.now alive.now layers.old out.old }
-    ensures { FindsIn (CycleWith (IsCycle (Step w n m.now alive.now))) out.old out.new result }
+    requires { LendsAlive W n m.now alive.now layers.old out.old }
+    ensures { FindsIn (CycleWith (IsCycle (Step W n m.now alive.now))) out.old out.new result }
 {
-    let mut rest = [0u64; 4];
-    let s = least_start(m, w, n, alive, &mut rest, layers);
-    if s < n {
-        Found::Cycle(write_cycle(m, w, n, alive, s, layers, out))
-    } else {
-        Found::Nothing
+    let mut rest = [[0u64; W]; 1];
+    match least_start(m, n, alive, &mut rest, layers) {
+        Some(s) => Found::Cycle(write_cycle(m, n, alive, s, layers, out)),
+        None => Found::Nothing,
     }
 }
 
 // The least cycle of m, at the front of `out`. `back` says whether some step goes back: where none does there is none. `layers` is room to work in.
-pub fn least_cycle(
-    m: &[u64],
+pub fn least_cycle<const W: usize>(
+    m: &[[u64; W]],
     back: bool,
-    w: usize,
     n: usize,
-    layers: &mut [u64],
+    layers: &mut [[u64; W]],
     out: &mut [u8],
 ) -> Found
-    requires { Lends w n m.now layers.old out.old × Says back (GoesBack w n m.now) }
-    ensures { FindsIn (CycleWith (IsCycle (Cell w n m.now))) out.old out.new result }
+    requires { Lends W n m.now layers.old out.old × Says back (GoesBack W n m.now) }
+    ensures { FindsIn (CycleWith (IsCycle (Cell W n m.now))) out.old out.new result }
 {
     if back {
-        let mut alive = [0u64; 4];
-        trim(m, w, n, &mut alive);
-        least_cycle_among(m, w, n, &alive, layers, out)
+        let mut alive = [[0u64; W]; 1];
+        trim(m, n, &mut alive);
+        least_cycle_among(m, n, &alive, layers, out)
     } else {
         Found::Nothing
     }

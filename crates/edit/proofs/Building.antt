@@ -1,4 +1,5 @@
 -- From the empty table, appends alone build every well-formed table; what is built is read back as the same events.
+use Rattle.std.specs.Prelude.{Ok}
 use mathlib.Core.Path.{◌≡◌, sym, subst, subst⁻¹, ap, ap₂, ◌∙◌}
 use mathlib.Core.List.{List, ◌++◌, append_assoc}
 use Prim.Native.Nat.{ℕ, zero, suc, ◌+◌, ◌*◌, ◌<◌, ◌≤◌}
@@ -10,13 +11,11 @@ use Rattle.record.specs.Form.{encode, overwritten}
 use Rattle.record.specs.Fits.{Fits}
 use Rattle.model.specs.Table.{Table, Inside}
 use Rattle.model.specs.WellFormed.{WellFormed}
-use Rattle.table.specs.declared.Tested.TheVariants as tested
 use Rattle.table.specs.Events.{count_of, events_of, written, bytes_of}
 use Rattle.table.specs.Test.{Passes, RecordsAnswer, sound}
 use Rattle.table.proofs.Exact.{passes_alike}
 use Rattle.table.proofs.WellFormed.{test_pass}
 use Rattle.table.proofs.Written.{written_length, written_part, written_read, written_sound}
-use Rattle.edit.specs.declared.appending.Appended.TheVariants.{Count}
 use Rattle.edit.specs.Append.{Ready, good, AppendAnswer, Appends, nothing, one_more, Builds}
 
 module _ (t : Table) (well : WellFormed t) (fits : (n : ℕ) → Inside t n → Fits (t.at n)) (small : t.count ≤ limit) where
@@ -32,11 +31,11 @@ module _ (t : Table) (well : WellFormed t) (fits : (n : ℕ) → Inside t n → 
       (λ k j. written_part t.at t.count k (omega arith) ∙ sym (written_part t.at n k (omega arith)))
       (whole_passes m (omega arith))
 
-  front_sound : (n : ℕ) → n ≤ t.count → RecordsAnswer (written t.at n) (tested.Sound n)
+  front_sound : (n : ℕ) → n ≤ t.count → RecordsAnswer (written t.at n) (Ok n)
   front_sound n h =
       let long = written_length t.at n in
       let count : count_of (written t.at n) ≡ n = omega arith in
-      subst (λ (k : ℕ). RecordsAnswer (written t.at n) (tested.Sound k)) count
+      subst (λ (k : ℕ). RecordsAnswer (written t.at n) (Ok k)) count
       (sound (λ m l. front_passes n h m (omega (arith, count))))
 
   module _ (b : List ℕ) (room : 16 * t.count ≤ length b) where
@@ -59,7 +58,7 @@ module _ (t : Table) (well : WellFormed t) (fits : (n : ℕ) → Inside t n → 
         record {
           sound_use = record {
             in_use = record { few = omega arith; held = omega arith };
-            sound = subst⁻¹ (λ (l : List ℕ). RecordsAnswer l (tested.Sound n)) (front_grown n) (front_sound n (omega arith));
+            sound = subst⁻¹ (λ (l : List ℕ). RecordsAnswer l (Ok n)) (front_grown n) (front_sound n (omega arith));
           };
           not_full = λ e. absurd (omega arith);
           room = omega arith;
@@ -74,7 +73,7 @@ module _ (t : Table) (well : WellFormed t) (fits : (n : ℕ) → Inside t n → 
         (ap (λ (l : List ℕ). encode (t.at n) ++ l)
         (ap (λ (k : ℕ). drop k b) e ∙ (sym (drop-drop 16 (16 * n) b) ∙ ap (drop 16) (sym (rest_grown n)))))
 
-    step : (n : ℕ) → Inside t n → AppendAnswer (grown n) n (t.at n) (grown (suc n)) (Count (n + 1))
+    step : (n : ℕ) → Inside t n → AppendAnswer (grown n) n (t.at n) (grown (suc n)) (Ok (n + 1))
     unfolding written
     step n h = record {
       decided = good (ready n h)

@@ -18,7 +18,7 @@ use Rattle.edit.specs.Columns.{Judging}
 use Rattle.edit.specs.Cut.{RaceKept, Lacking}
 
 -- record b of the table t, and the selection s
-module _ (s : List ℕ) {t : Table} {w n b : ℕ} {kind source place at hb race : List ℕ} (l : b < n) where
+module _ (s : List ℕ) {t : Table} {w n b : ℕ} {kind source place : List ℕ} {at hb race : List (List ℕ)} (l : b < n) where
   pub race_kept_told :
       {r : Bool} → Reading t w n kind source place at hb race → Says r ((a : ℕ) × ((a < n) × (T (named s a) × On w race a b)))
       → Says r (RaceKept (named s) t b)

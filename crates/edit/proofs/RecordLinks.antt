@@ -1,10 +1,10 @@
 -- The bytes of a sound table's record lead to earlier records, or nowhere.
+use Rattle.std.specs.Prelude.{Some}
 use mathlib.Core.Path.{◌≡◌, sym, ap, ◌∙◌}
 use mathlib.Core.List.{List}
 use Prim.Native.Nat.{ℕ, ◌<◌}
 use lib.ListN.{length}
 use borrow.Author.Tests.{ne_eqb}
-use Rattle.events.specs.declared.Link.TheVariants.{To}
 use Rattle.events.specs.declared.Record.{Record}
 use Rattle.record.specs.Form.{parent_byte, source_byte, link_from, part}
 use Rattle.record.proofs.Parts.{part_length}
@@ -18,7 +18,7 @@ pub record Earlier (n : ℕ) (p : List ℕ) : Type 0 where
   pub parent : ¬ (parent_byte p ≡ 255) → parent_byte p < n
   pub source : ¬ (source_byte p ≡ 255) → source_byte p < n
 
-link_to : (byte : ℕ) → ¬ (byte ≡ 255) → link_from byte ≡ To byte
+link_to : (byte : ℕ) → ¬ (byte ≡ 255) → link_from byte ≡ Some byte
 unfolding link_from
 link_to byte h = rw (ne_eqb byte 255 h)
 

@@ -1,8 +1,8 @@
 -- Demand 3, on the bytes that a cut wrote.
+use Rattle.std.specs.Prelude.{None, Err, Ok, Result}
 use mathlib.Core.Path.{◌≡◌, refl, sym, subst, subst⁻¹, ap, ◌∙◌}
 use mathlib.Core.Bool.{Bool}
 use mathlib.Core.List.{List}
-use mathlib.Core.Option.{none}
 use Prim.Native.Nat.{ℕ, ◌*◌, ◌<◌}
 use native.Mathlib.Omega.{arith}
 use native.Mathlib.Decide.{dec_lt}
@@ -12,7 +12,6 @@ use lib.Seq.{take_at}
 use Rattle.laws.specs.Least.{Least, LeastNumber}
 use Rattle.laws.proofs.Says.{by_dec, says_T, says_dec, says_lt, says_and, says_any, says_any_below, says_iff}
 use Rattle.selections.specs.Selection.{named, Refused9, empty, past_count}
-use Rattle.record.specs.declared.Decoded.TheVariants.{Good}
 use Rattle.record.specs.Form.{parent_byte, source_byte, decode, part}
 use Rattle.events.specs.Words.{is_write}
 use Rattle.model.specs.Table.{Table, Inside}
@@ -23,7 +22,6 @@ use Rattle.model.proofs.Cutting.{cut_invents_no_fault}
 use Rattle.model.proofs.MirrorTells.{race_told}
 use Rattle.model.proofs.Within.{race_within}
 use Rattle.refusals.specs.declared.Refusal.{Refusal}
-use Rattle.table.specs.declared.Tested.TheVariants as tested
 use Rattle.table.specs.Events.{count_of, events_of}
 use Rattle.table.specs.Test.{length_ok, Passes, RecordsAnswer, sound, TestAnswer, records}
 use Rattle.table.proofs.Exact.{at_decoded}
@@ -31,8 +29,6 @@ use Rattle.table.proofs.Front.{says_right_length}
 use Rattle.table.proofs.WellFormed.{sound_count, events_end}
 use Rattle.facts.specs.Sound.{SoundTable}
 use Rattle.facts.proofs.Promise.{sound_table}
-use Rattle.edit.specs.declared.cutting.CutDown.{CutDown}
-use Rattle.edit.specs.declared.cutting.CutDown.TheVariants.{Refused, Kept}
 use Rattle.edit.specs.Cut.{kept_bytes, RaceKept, Lacking, Whole, Decides, bad_table, bad_selection, lacking, no_room, good, CutAnswer, RightCut}
 use Rattle.edit.proofs.KeptBytes.{kept_length, kept_part_lem}
 use Rattle.edit.proofs.RecordLinks.{earlier}
@@ -68,7 +64,7 @@ module _ (k : ℕ → Bool) (t : Table) (W : WellFormed t) where
           (says_iff (λ (e, (write, race)). record { earlier = e; write = write; race = race }) (λ r. (r.earlier, (r.write, r.race)))
           (says_and (says_lt w n) (says_and (says_T (is_write (t.at w).event)) ((race_told W).each w n l h))))))
 
-  selection : (n : ℕ) × (Inside t n × T (k n)) → LeastNumber (Lacking k t) none → Selection k t
+  selection : (n : ℕ) × (Inside t n × T (k n)) → LeastNumber (Lacking k t) None → Selection k t
   selection some (Least.absent lacks) = record { some_kept = some; complete = λ n h is. nothing_lacked n h is (lacks n) }
 
 -- ---- what is written
@@ -84,7 +80,7 @@ module _ (b : List ℕ) (k : ℕ → Bool) (S : SoundTable b) where
   cut_length = kept_length k b t.count (omega (arith, S.size))
 
   -- a kept record is read back with its links renumbered
-  kept_decodes : (n : ℕ) → Inside t n → T (k n) → decode (part cut (new_number k n)) ≡ Good (renumbered (new_number k) (t.at n))
+  kept_decodes : (n : ℕ) → Inside t n → T (k n) → decode (part cut (new_number k n)) ≡ Ok (renumbered (new_number k) (t.at n))
   kept_decodes n h is =
       let links = earlier (record { sound = S; inside = h }) in
       let few = S.few in
@@ -121,7 +117,7 @@ module _ (b : List ℕ) (k : ℕ → Bool) (S : SoundTable b) where
           not_8 = sound.not_8;
         }
 
-    cut_sound : TestAnswer cut (tested.Sound (new_number k t.count))
+    cut_sound : TestAnswer cut (Ok (new_number k t.count))
     cut_sound =
         let long = cut_length in
         let some = invents_nothing.well_formed.some_record in
@@ -131,15 +127,15 @@ module _ (b : List ℕ) (k : ℕ → Bool) (S : SoundTable b) where
         let count : count_of cut ≡ new_number k t.count = omega arith in
         let right : T (length_ok (length cut)) = (says_right_length (length cut)).from (omega arith) in
         records right
-        (subst (λ (n : ℕ). RecordsAnswer cut (tested.Sound n)) count (sound (λ i h. cut_passes i (omega (arith, count)))))
+        (subst (λ (n : ℕ). RecordsAnswer cut (Ok n)) count (sound (λ i h. cut_passes i (omega (arith, count)))))
 
     right : RightCut b k (new_number k t.count) cut
     right = record { sound = cut_sound; cut = is_cut; no_fault = invents_nothing }
 
-not_kept : {A : Type 0} {r : Refusal} {n : ℕ} → Refused r ≡ Kept n → A
+not_kept : {A : Type 0} {r : Refusal} {n : ℕ} → Err r ≡ Ok n → A
 not_kept e = absurd (let z : ◌≡◌ {A = ℕ} 0 1 = cc in omega arith)
 
-kept_whole : {b s before : List ℕ} {n : ℕ} {a : CutDown} → Decides b s before a → a ≡ Kept n → (m : ℕ) × (Whole b s m × (n ≡ new_number (named s) m))
+kept_whole : {b s before : List ℕ} {n : ℕ} {a : Result ℕ Refusal} → Decides b s before a → a ≡ Ok n → (m : ℕ) × (Whole b s m × (n ≡ new_number (named s) m))
 kept_whole (bad_table _) e = not_kept e
 kept_whole (bad_selection _ _ _) e = not_kept e
 kept_whole (lacking _ _ _) e = not_kept e
@@ -148,7 +144,7 @@ kept_whole (good {n = m} w _) e = (m, (w, cc))
 
 -- Demand 3, as one theorem about what the cut wrote
 pub cut_right :
-    (b s before after : List ℕ) (n : ℕ) → CutAnswer b s before after (Kept n) → RightCut b (named s) n (take (16 * n) after)
+    (b s before after : List ℕ) (n : ℕ) → CutAnswer b s before after (Ok n) → RightCut b (named s) n (take (16 * n) after)
 cut_right b s before after n answer =
     let k = named s in
     let (m, (whole, size)) = kept_whole answer.decided refl in

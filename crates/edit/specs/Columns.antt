@@ -1,44 +1,27 @@
 -- What the functions of a cut hand each other: the columns and rows that tell what is lacking, the column of new numbers, what is written.
 use Rattle.std.specs.Prelude.{◌≡◌, Bool, List, ℕ, ◌+◌, ◌*◌, ◌<◌, ◌≤◌, length, get_or}
-use Rattle.std.proofs.Math.Option.{Option, none, some}
 use Rattle.limits.specs.Limit.{limit}
 use Rattle.selections.specs.Selection.{named}
 use Rattle.record.specs.Form.{record_size, parent_byte, source_byte, part}
 use Rattle.model.specs.Table.{Table}
 use Rattle.model.specs.Cut.{new_number}
 use Rattle.facts.specs.Sound.{Counted}
-use Rattle.combined.specs.Columns.{Placed}
 use Rattle.columns.specs.Columns.{parent_number, Column}
-use Rattle.columns.specs.Codes.{Lent}
 use Rattle.seeking.specs.Reads.{ReadRoom, Reading}
-use Rattle.edit.specs.declared.completeness.Lack.{Lack}
-use Rattle.edit.specs.declared.completeness.Lack.TheVariants.{Nothing, Record}
 
 -- ---- what is lacking
 
--- all columns of n records, and a selection that has a bit for each
-pub record ColumnsRoom (n : ℕ) (parent arm source sync place kind order s : List ℕ) : Type 0 where
-  pub few : n ≤ limit
-  pub lent : Lent n parent arm source sync place kind order
-  pub placed : Placed n place
-  pub bits : n ≤ 8 * length s
-
--- columns and rows of n records, and such a selection
-pub record JudgingRoom (w n : ℕ) (parent kind source place at hb race s : List ℕ) : Type 0 where
+-- columns and rows of n records, and a selection that has a bit for each
+pub record JudgingRoom (w n : ℕ) (parent kind source place : List ℕ) (at hb race : List (List ℕ)) (s : List ℕ) : Type 0 where
   pub parents : n ≤ length parent
   pub kinds : n ≤ length kind
   pub reads : ReadRoom w n source place at hb race
   pub bits : n ≤ 8 * length s
 
 -- they are those of the table t
-pub record Judging (t : Table) (w n : ℕ) (parent kind source place at hb race : List ℕ) : Type 0 where
+pub record Judging (t : Table) (w n : ℕ) (parent kind source place : List ℕ) (at hb race : List (List ℕ)) : Type 0 where
   pub parents : Column n (parent_number t) parent
   pub reading : Reading t w n kind source place at hb race
-
--- the least record that lacks something, if one does
-abbrev pub lack_of : Lack → Option ℕ
-lack_of Nothing = none
-lack_of (Record n) = some n
 
 -- ---- new numbers
 

@@ -5,65 +5,50 @@ use events::Record;
 use limits::LIMIT;
 use record::places::SIZE;
 use refusals::Refusal;
-use table::{Checked, Tested};
-
-// The new count of records, or why nothing was written.
-#[derive(Drop)]
-pub enum Appended {
-    Refused(Refusal),
-    Count(usize),
-}
 
 // The answer for the new record, where the records in use are sound: 12, 11, "then the new event by 3 to 8 at the next number".
-fn answer_for_new(buffer: &[u8], used: usize, new: Record) -> Appended
+fn answer_for_new(buffer: &[u8], used: usize, new: Record) -> Result<usize, Refusal>
     requires { SoundUse buffer.now used }
     ensures { Decides buffer.now used new result }
 {
     if used == LIMIT {
-        return Appended::Refused(Refusal::Full);
+        return Err(Refusal::Full);
     }
     if SIZE * used + SIZE <= buffer.len() {
         return match table::check_new(buffer, used, new) {
-            Checked::Fine => Appended::Count(used + 1),
-            Checked::Faulty(f) => Appended::Refused(Refusal::Record(f, used)),
+            Ok(()) => Ok(used + 1),
+            Err(f) => Err(Refusal::Record(f, used)),
         };
     }
-    Appended::Refused(Refusal::Room)
+    Err(Refusal::Room)
 }
 
 // The answer for records in use that the buffer holds.
-fn answer_in_use(buffer: &[u8], used: usize, new: Record) -> Appended
+fn answer_in_use(buffer: &[u8], used: usize, new: Record) -> Result<usize, Refusal>
     requires { InUse buffer.now used }
     ensures { Decides buffer.now used new result }
 {
-    match table::test_records(buffer, used) {
-        Tested::Sound(_) => answer_for_new(buffer, used, new),
-        Tested::Refused(r) => Appended::Refused(r),
-    }
+    table::test_records(buffer, used)?;
+    answer_for_new(buffer, used, new)
 }
 
-fn answer(buffer: &[u8], used: usize, new: Record) -> Appended
+fn answer(buffer: &[u8], used: usize, new: Record) -> Result<usize, Refusal>
     ensures { Decides buffer.now used new result }
 {
     if used <= LIMIT {
         if SIZE * used <= buffer.len() {
             return answer_in_use(buffer, used, new);
         }
-        return Appended::Refused(Refusal::Length);
+        return Err(Refusal::Length);
     }
-    Appended::Refused(Refusal::Length)
+    Err(Refusal::Length)
 }
 
 // Appends `new` to the first `used` records of the buffer.
-pub fn append(buffer: &mut [u8], used: usize, new: Record) -> Appended
+pub fn append(buffer: &mut [u8], used: usize, new: Record) -> Result<usize, Refusal>
     ensures { AppendAnswer buffer.old used new buffer.new result }
 {
-    let answered = answer(&buffer[..], used, new);
-    match answered {
-        Appended::Count(_) => {
-            slots::write_at(buffer, used, new);
-            answered
-        }
-        Appended::Refused(_) => answered,
-    }
+    let count = answer(buffer, used, new)?;
+    slots::write_at(buffer, used, new);
+    Ok(count)
 }

@@ -1,24 +1,15 @@
 // A cut: the selected records of a table, written to a lent output.
 ghost use Rattle.std.specs.Prelude.{◌≤◌, length};
 ghost use Rattle.limits.specs.Limit.{limit};
-ghost use Rattle.table.specs.declared.Tested.TheVariants.{Sound};
 ghost use Rattle.table.specs.Test.{TestAnswer};
 ghost use Rattle.edit.specs.Cut.{Selected, Whole, CutAnswer};
 
-use crate::completeness::{Lack, least_lacking};
+use crate::completeness::least_lacking;
 use crate::numbering::number;
 use crate::writing::write_kept;
 use limits::LIMIT;
 use record::places::SIZE;
 use refusals::Refusal;
-use table::Tested;
-
-// How many records were kept, or why nothing was written.
-#[derive(Drop)]
-pub enum CutDown {
-    Refused(Refusal),
-    Kept(usize),
-}
 
 // The cut by a selection that lacks nothing: 11, or the kept records. `numbers` is room to work in, here and below.
 fn cut_complete(
@@ -27,16 +18,16 @@ fn cut_complete(
     selection: &[u8],
     numbers: &mut [u8],
     out: &mut [u8],
-) -> CutDown
+) -> Result<usize, Refusal>
     requires { Whole table.now selection.now count × (limit ≤ length numbers.old) }
     ensures { CutAnswer table.now selection.now out.old out.new result }
 {
     let size = number(selection, count, numbers);
     if SIZE * size <= out.len() {
         write_kept(table, selection, numbers, count, out);
-        CutDown::Kept(size)
+        Ok(size)
     } else {
-        CutDown::Refused(Refusal::Room)
+        Err(Refusal::Room)
     }
 }
 
@@ -47,13 +38,13 @@ fn cut_by(
     selection: &[u8],
     numbers: &mut [u8],
     out: &mut [u8],
-) -> CutDown
+) -> Result<usize, Refusal>
     requires { Selected table.now selection.now count × (limit ≤ length numbers.old) }
     ensures { CutAnswer table.now selection.now out.old out.new result }
 {
     match least_lacking(table, selection, count) {
-        Lack::Record(n) => CutDown::Refused(Refusal::Incomplete(n)),
-        Lack::Nothing => cut_complete(table, count, selection, numbers, out),
+        Some(n) => Err(Refusal::Incomplete(n)),
+        None => cut_complete(table, count, selection, numbers, out),
     }
 }
 
@@ -64,12 +55,12 @@ fn cut_sound(
     selection: &[u8],
     numbers: &mut [u8],
     out: &mut [u8],
-) -> CutDown
-    requires { TestAnswer table.now (Sound count) × (limit ≤ length numbers.old) }
+) -> Result<usize, Refusal>
+    requires { TestAnswer table.now (Ok count) × (limit ≤ length numbers.old) }
     ensures { CutAnswer table.now selection.now out.old out.new result }
 {
     if selections::refused(selection, count) {
-        CutDown::Refused(Refusal::Selection)
+        Err(Refusal::Selection)
     } else {
         cut_by(table, count, selection, numbers, out)
     }
@@ -77,12 +68,10 @@ fn cut_sound(
 
 // Cuts the table down to the records that the selection names. The room for the new numbers is made before anything is tested, so that the frame of
 // this function is made first: a frame that is made after a test has been compiled wrong (docs/DECISIONS.md, 37).
-pub fn cut(table: &[u8], selection: &[u8], out: &mut [u8]) -> CutDown
+pub fn cut(table: &[u8], selection: &[u8], out: &mut [u8]) -> Result<usize, Refusal>
     ensures { CutAnswer table.now selection.now out.old out.new result }
 {
     let mut numbers = [0u8; LIMIT];
-    match table::test(table) {
-        Tested::Refused(r) => CutDown::Refused(r),
-        Tested::Sound(count) => cut_sound(table, count, selection, &mut numbers, out),
-    }
+    let count = table::test(table)?;
+    cut_sound(table, count, selection, &mut numbers, out)
 }

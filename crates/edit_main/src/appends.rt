@@ -1,16 +1,17 @@
 // An append, and what it gives.
 ghost use Rattle.std.specs.Prelude.{◌≤◌, length};
 
-use edit::appending::{Appended, append};
+use edit::appending::append;
 use events::Record;
 use programs::say;
 use programs::script::{WIDTH, record_at};
+use refusals::Refusal;
 use std::io;
 
-fn say_answer(rt: &impl Print, appended: Appended) -> io::Result<()> {
+fn say_answer(rt: &impl Print, appended: Result<usize, Refusal>) -> io::Result<()> {
     match appended {
-        Appended::Count(n) => say::number(rt, b" count ", n),
-        Appended::Refused(r) => {
+        Ok(n) => say::number(rt, b" count ", n),
+        Err(r) => {
             say::text(rt, b" ")?;
             say::refusal(rt, r)
         }

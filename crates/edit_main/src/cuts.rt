@@ -3,28 +3,29 @@ ghost use Rattle.std.specs.Prelude.{◌≤◌, length};
 
 use crate::appends::build;
 use crate::shown::say_records;
-use edit::cutting::{CutDown, cut};
+use edit::cutting::cut;
 use programs::examples::{E8, E9};
 use programs::{examples, say};
 use record::places::{MARK_SECOND, SIZE};
+use refusals::Refusal;
 use selections::SELECTION;
 use std::io;
 
 // A cut into the first `room` bytes.
-fn cut_within(table: &[u8], selection: &[u8], out: &mut [u8], room: usize) -> CutDown
+fn cut_within(table: &[u8], selection: &[u8], out: &mut [u8], room: usize) -> Result<usize, Refusal>
     requires { room ≤ length out.old }
 {
     cut(table, selection, &mut out[0..room])
 }
 
 // Says what a cut answered; how many records it wrote.
-pub fn say_answer(rt: &impl Print, answer: CutDown) -> io::Result<usize> {
+pub fn say_answer(rt: &impl Print, answer: Result<usize, Refusal>) -> io::Result<usize> {
     match answer {
-        CutDown::Kept(k) => {
+        Ok(k) => {
             say::number(rt, b" kept ", k)?;
             Ok(k)
         }
-        CutDown::Refused(r) => {
+        Err(r) => {
             say::text(rt, b" ")?;
             say::refusal(rt, r)?;
             Ok(0)

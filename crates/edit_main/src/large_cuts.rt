@@ -7,7 +7,6 @@ use crate::cuts::say_answer;
 use crate::shown::say_record;
 use edit::cutting::cut;
 use limits::LIMIT;
-use programs::large::Large;
 use programs::{large, say};
 use record::places::SIZE;
 use selections::SELECTION;
@@ -35,7 +34,7 @@ fn say_cut(
 // The chain of 200 (each record the parent of the next): a front of it can be kept, and record 199 with all before it.
 pub fn of_chain(rt: &impl Print) -> io::Result<()> {
     let mut t = [0u8; SIZE * LIMIT];
-    large::write(Large::Chain, 200, &mut t);
+    large::write(large::chain, 200, &mut t);
     let mut all = [255u8; SELECTION];
     let mut out = [0xaau8; SIZE * LIMIT];
     say_cut(

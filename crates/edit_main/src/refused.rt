@@ -4,7 +4,6 @@ ghost use Rattle.std.specs.Prelude.{◌≡◌, ◌≤◌, length};
 use crate::appends::{say_line, say_within};
 use events::{Order, Record};
 use limits::LIMIT;
-use programs::large::Large;
 use programs::records::{load, store};
 use programs::script::record_named;
 use programs::{large, say};
@@ -71,7 +70,7 @@ pub fn uses(rt: &impl Print, t: [u8; 96], new: Record) -> io::Result<()> {
 // Appends to a table that has as many records as it may have, or one less.
 pub fn full(rt: &impl Print) -> io::Result<()> {
     let mut t = [0u8; SIZE * LIMIT + SIZE];
-    large::write(Large::Chain, 200, &mut t);
+    large::write(large::chain, 200, &mut t);
     let new = store(Order::Na, 0, 199, 31, 1);
     say_line(rt, b"200 in use", &mut t, LIMIT, new)?;
     say_within(rt, b"200 in use, no room", &mut t, SIZE * LIMIT, LIMIT, new)?;

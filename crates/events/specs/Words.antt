@@ -1,6 +1,5 @@
 -- Words of document 01 on one order, one value, one event: each a table by cases.
-use Rattle.std.specs.Prelude.{Bool, true, false, ℕ, eqb}
-use Rattle.std.proofs.Math.Option.{Option, none, some}
+use Rattle.std.specs.Prelude.{Bool, true, false, ℕ, eqb, Option, None, Some}
 use Rattle.events.specs.declared.Order.{Order}
 use Rattle.events.specs.declared.Order.TheVariants.{Na, Acq, Rel, Ar, Sc}
 use Rattle.events.specs.declared.Value.{Value}
@@ -81,29 +80,29 @@ order_of (Update o x v w) = o
 
 -- "Init has no location and no values"
 abbrev pub location_of : Event → Option ℕ
-location_of Init = none
-location_of (Load o x v) = some x
-location_of (Store o x w) = some x
-location_of (Update o x v w) = some x
+location_of Init = None
+location_of (Load o x v) = Some x
+location_of (Store o x w) = Some x
+location_of (Update o x v w) = Some x
 
 abbrev pub read_of : Event → Option Value
-read_of Init = none
-read_of (Load o x v) = some v
-read_of (Store o x w) = none
-read_of (Update o x v w) = some v
+read_of Init = None
+read_of (Load o x v) = Some v
+read_of (Store o x w) = None
+read_of (Update o x v w) = Some v
 
 abbrev pub written_of : Event → Option Value
-written_of Init = none
-written_of (Load o x v) = none
-written_of (Store o x w) = some w
-written_of (Update o x v w) = some w
+written_of Init = None
+written_of (Load o x v) = None
+written_of (Store o x w) = Some w
+written_of (Update o x v w) = Some w
 
 -- both have a location, and it is one and the same
 abbrev pub same_location : Option ℕ → Option ℕ → Bool
-same_location none none = false
-same_location none (some y) = false
-same_location (some x) none = false
-same_location (some x) (some y) = eqb x y
+same_location None None = false
+same_location None (Some y) = false
+same_location (Some x) None = false
+same_location (Some x) (Some y) = eqb x y
 
 abbrev pub at_one_location : Event → Event → Bool
 at_one_location e f = same_location (location_of e) (location_of f)

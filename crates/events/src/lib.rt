@@ -5,7 +5,7 @@ ghost use Rattle.std.specs.Prelude.{◌≡◌};
 ghost use Rattle.events.specs.Words.{acquires, releases, code_of};
 
 // The five orders. NA: not atomic.
-#[derive(Clone, Copy)]
+#[derive(Clone, Copy, Debug, PartialEq, Eq)]
 pub enum Order {
     Na,
     Acq,
@@ -29,25 +29,13 @@ impl Order {
     pub fn acquires(self) -> bool
         ensures { result ≡ acquires self }
     {
-        match self {
-            Order::Na => false,
-            Order::Acq => true,
-            Order::Rel => false,
-            Order::Ar => true,
-            Order::Sc => true,
-        }
+        matches!(self, Order::Acq | Order::Ar | Order::Sc)
     }
 
     pub fn releases(self) -> bool
         ensures { result ≡ releases self }
     {
-        match self {
-            Order::Na => false,
-            Order::Acq => false,
-            Order::Rel => true,
-            Order::Ar => true,
-            Order::Sc => true,
-        }
+        matches!(self, Order::Rel | Order::Ar | Order::Sc)
     }
 
     pub fn code(self) -> u8
@@ -64,14 +52,14 @@ impl Order {
 }
 
 // u (LLVM's undef), or a known number.
-#[derive(Clone, Copy)]
+#[derive(Clone, Copy, Debug, PartialEq, Eq)]
 pub enum Value {
     U,
     Known(u16),
 }
 
 // What happened: each value is held inside the load, store or update it belongs to.
-#[derive(Clone, Copy)]
+#[derive(Clone, Copy, Debug, PartialEq, Eq)]
 pub enum Event {
     Init,
     Load {
@@ -92,18 +80,13 @@ pub enum Event {
     },
 }
 
-// Another record's number, or none.
-#[derive(Clone, Copy)]
-pub enum Link {
-    Absent,
-    To(u8),
-}
-
 // One line of a table: an event, its thread, and who its parent and its source are.
-#[derive(Clone, Copy)]
+#[derive(Clone, Copy, Debug, PartialEq, Eq)]
 pub struct Record {
     pub thread: u8,
-    pub parent: Link,
-    pub source: Link,
+    // the parent's number, or none
+    pub parent: Option<u8>,
+    // the source's number, or none
+    pub source: Option<u8>,
     pub event: Event,
 }

@@ -1,7 +1,7 @@
 -- What the bytes of a record that decodes say of it.
+use Rattle.std.specs.Prelude.{None, Some}
 use mathlib.Core.Path.{◌≡◌, refl, sym, ap, ap₂, ◌∙◌}
 use mathlib.Core.Bool.{Bool, true, false, not, ◌&&◌, ◌||◌}
-use mathlib.Core.Option.{none, some}
 use mathlib.Core.List.{List}
 use Prim.Native.Nat.{ℕ, ◌+◌, ◌*◌, ◌<◌, ◌≤◌}
 use native.Mathlib.Omega.{arith}
@@ -51,9 +51,9 @@ module _ (o : Order) (x : ℕ) (v w : Value) where
   unfolding event_from
   order_by = four (λ (k : ℕ). pick (eqb k 0) Na o ≡ order_of (event_from k o x v w)) refl refl refl refl
 
-  location_by : (k : ℕ) → k < 4 → pick (eqb k 0) none (some x) ≡ location_of (event_from k o x v w)
+  location_by : (k : ℕ) → k < 4 → pick (eqb k 0) None (Some x) ≡ location_of (event_from k o x v w)
   unfolding event_from
-  location_by = four (λ (k : ℕ). pick (eqb k 0) none (some x) ≡ location_of (event_from k o x v w)) refl refl refl refl
+  location_by = four (λ (k : ℕ). pick (eqb k 0) None (Some x) ≡ location_of (event_from k o x v w)) refl refl refl refl
 
 -- ---- the orders by their codes
 
@@ -106,9 +106,9 @@ module _ {b : List ℕ} {n : ℕ} (one : One b n) where
   updates_told =
       kind_told is_update (λ k. eqb k 3) (updates_by (order_from (order_byte bytes)) (location_byte bytes) (read_from bytes) (written_from bytes))
 
-  location_told : pick (eqb (kind_byte bytes) 0) none (some (location_byte bytes)) ≡ location_of ((events_of b).at n).event
+  location_told : pick (eqb (kind_byte bytes) 0) None (Some (location_byte bytes)) ≡ location_of ((events_of b).at n).event
   location_told =
-      kind_told location_of (λ k. pick (eqb k 0) none (some (location_byte bytes)))
+      kind_told location_of (λ k. pick (eqb k 0) None (Some (location_byte bytes)))
       (location_by (order_from (order_byte bytes)) (location_byte bytes) (read_from bytes) (written_from bytes)) refl
 
   -- the order that the code stands for: a code in an Init's row is NA's
@@ -119,7 +119,7 @@ module _ {b : List ℕ} {n : ℕ} (one : One b n) where
       ∙ kind_told order_of (λ k. pick (eqb k 0) Na (order_from (order_byte bytes)))
       (order_by (order_from (order_byte bytes)) (location_byte bytes) (read_from bytes) (written_from bytes)) refl)
 
-located : (i j : Bool) (x y : ℕ) → ((not i && not j) && eqb x y) ≡ same_location (pick i none (some x)) (pick j none (some y))
+located : (i j : Bool) (x y : ℕ) → ((not i && not j) && eqb x y) ≡ same_location (pick i None (Some x)) (pick j None (Some y))
 located true true x y = refl
 located true false x y = refl
 located false true x y = refl

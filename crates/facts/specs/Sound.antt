@@ -1,8 +1,7 @@
 -- What the reader promises of a table that it lets pass, and the records of such a table.
-use Rattle.std.specs.Prelude.{◌≡◌, List, ℕ, ◌*◌, ◌<◌, ◌≤◌, length}
+use Rattle.std.specs.Prelude.{◌≡◌, List, ℕ, ◌*◌, ◌<◌, ◌≤◌, length, Ok}
 use Rattle.model.specs.Table.{Inside}
 use Rattle.model.specs.WellFormed.{WellFormed}
-use Rattle.record.specs.declared.Decoded.TheVariants.{Good}
 use Rattle.record.specs.Form.{record_size, decode, part}
 use Rattle.table.specs.Events.{events_of}
 use Rattle.limits.specs.Limit.{limit}
@@ -12,7 +11,7 @@ pub record SoundTable (b : List ℕ) : Type 0 where
   pub formed : WellFormed (events_of b)
   pub few : (events_of b).count ≤ limit
   pub size : record_size * (events_of b).count ≡ length b
-  pub decodes : (n : ℕ) → n < (events_of b).count → decode (part b n) ≡ Good ((events_of b).at n)
+  pub decodes : (n : ℕ) → n < (events_of b).count → decode (part b n) ≡ Ok ((events_of b).at n)
 
 -- a is the number of one of its records
 pub record One (b : List ℕ) (a : ℕ) : Type 0 where

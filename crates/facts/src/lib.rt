@@ -7,7 +7,7 @@ ghost use Rattle.record.specs.Form.{record_size, byte_at, part};
 ghost use Rattle.table.specs.Events.{events_of};
 ghost use Rattle.facts.specs.Sound.{One, Two};
 
-use events::{Link, Order};
+use events::Order;
 use record::places::{
     INIT, KIND, LOAD, LOCATION, ORDER, PARENT, SIZE, SOURCE, STORE, THREAD, UPDATE,
 };
@@ -22,7 +22,7 @@ pub fn byte(table: &[u8], n: usize, i: usize) -> u8
 }
 
 // The parent of record n.
-pub fn parent(table: &[u8], n: usize) -> Link
+pub fn parent(table: &[u8], n: usize) -> Option<u8>
     requires { One table.now n }
     ensures { result ≡ ((events_of table.now).at n).parent }
 {
@@ -30,7 +30,7 @@ pub fn parent(table: &[u8], n: usize) -> Link
 }
 
 // The source of record n.
-pub fn source(table: &[u8], n: usize) -> Link
+pub fn source(table: &[u8], n: usize) -> Option<u8>
     requires { One table.now n }
     ensures { result ≡ ((events_of table.now).at n).source }
 {

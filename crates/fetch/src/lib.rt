@@ -8,25 +8,18 @@ use record::places::SIZE;
 use refusals::Refusal;
 use table::length_ok;
 
-// Whether a fetch is refused.
-#[derive(Drop)]
-pub enum FetchTest {
-    Given,
-    Refused(Refusal),
-}
-
 // Whether a fetch of record n is refused, by 1 or by 13.
-pub fn refusal_of_fetch(table: &[u8], n: usize) -> FetchTest
+pub fn refusal_of_fetch(table: &[u8], n: usize) -> Result<(), Refusal>
     ensures { FetchAnswer table.now n result }
 {
     let len = table.len();
     if length_ok(len) {
         if n < len / SIZE {
-            return FetchTest::Given;
+            return Ok(());
         }
-        return FetchTest::Refused(Refusal::Past(n));
+        return Err(Refusal::Past(n));
     }
-    FetchTest::Refused(Refusal::Length)
+    Err(Refusal::Length)
 }
 
 // Record n's own sixteen bytes, or an empty part where the fetch is refused.
@@ -34,7 +27,7 @@ pub fn fetch(table: &[u8], n: usize) -> &[u8]
     ensures { result.now ≡ fetched table.now n }
 {
     match refusal_of_fetch(table, n) {
-        FetchTest::Given => slots::part_at(table, n),
-        FetchTest::Refused(_) => &table[..0],
+        Ok(()) => slots::part_at(table, n),
+        Err(_) => &table[..0],
     }
 }

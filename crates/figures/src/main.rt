@@ -1,29 +1,19 @@
 // Counts over the batch on standard input, and writes Monday's figures to standard output.
 #![tactic(auto)]
 
-ghost use Rattle.std.specs.Prelude.{◌≤◌, length};
-
 use anyhow::{Context, Result, bail};
 use batches::MOST;
 use input::read_full;
-use phrases::Wrote;
 use sheet::{SHEET, write_figures};
 
 // One byte more than a batch may have: a longer input is refused by what is read of it.
 const READ: usize = MOST + 1;
 
-// The first bytes.
-fn write_out(rt: &impl Print, text: &[u8], len: usize) -> Result<()>
-    requires { len ≤ length text.now }
-{
-    rt.write_all(&text[0..len]).context("output")
-}
-
 fn answer(rt: &impl Print, batch: &[u8]) -> Result<()> {
     let mut out = [0u8; SHEET];
     match write_figures(batch, &mut out) {
-        Wrote::Length(len) => write_out(rt, &out, len),
-        Wrote::Refused(_) => bail!("figures"),
+        Ok(len) => rt.write_all(&out[..len]).context("output"),
+        Err(_) => bail!("figures"),
     }
 }
 

@@ -1,7 +1,7 @@
 -- What a search's answer means says which it is.
+use Rattle.std.specs.Prelude.{Option, None, Some}
 use mathlib.Core.Path.{◌≡◌, refl, sym, ap, subst, ◌∙◌}
 use mathlib.Core.List.{List, ◌++◌}
-use mathlib.Core.Option.{Option, none, some}
 use lib.Dec.{T}
 use lib.ListN.{length, drop}
 use Prim.Native.Nat.{ℕ}
@@ -22,13 +22,13 @@ means_one pair_of pair_of = refl
 means_one (cycle_of e) (cycle_of f) = ap found.Cycle (e ∙ sym f)
 
 -- there is one exactly where the answer says so
-pub there_some : {x : Found} {w : Option Witness} → Means x w → T (there x) → (v : Witness) × (w ≡ some v)
+pub there_some : {x : Found} {w : Option Witness} → Means x w → T (there x) → (v : Witness) × (w ≡ Some v)
 there_some nothing h = absurd h
 there_some record_of h = (_, refl)
 there_some pair_of h = (_, refl)
 there_some (cycle_of l) h = (_, refl)
 
-pub there_none : {x : Found} {w : Option Witness} → Means x w → ¬ T (there x) → w ≡ none
+pub there_none : {x : Found} {w : Option Witness} → Means x w → ¬ T (there x) → w ≡ None
 there_none nothing h = refl
 there_none record_of h = absurd (h tt)
 there_none pair_of h = absurd (h tt)
@@ -61,24 +61,24 @@ finds_cycle_iff f g = finds_in_iff (λ w. along f) (λ w. along g)
 
 -- ---- the least that a search among things of one sort met, or nothing
 
-pub found_no_record : {P : ℕ → Type 0} → LeastNumber P none → Finds (RecordWith P) found.Nothing
-found_no_record l = record { witness = none; least = least_record l; means = nothing }
+pub found_no_record : {P : ℕ → Type 0} → LeastNumber P None → Finds (RecordWith P) found.Nothing
+found_no_record l = record { witness = None; least = least_record l; means = nothing }
 
-pub found_record : {P : ℕ → Type 0} {n : ℕ} → LeastNumber P (some n) → Finds (RecordWith P) (found.Record n)
+pub found_record : {P : ℕ → Type 0} {n : ℕ} → LeastNumber P (Some n) → Finds (RecordWith P) (found.Record n)
 found_record l = record { witness = _; least = least_record l; means = record_of }
 
-pub found_no_pair : {R : ℕ → ℕ → Type 0} → LeastPair R none → Finds (PairWith R) found.Nothing
-found_no_pair l = record { witness = none; least = least_pair l; means = nothing }
+pub found_no_pair : {R : ℕ → ℕ → Type 0} → LeastPair R None → Finds (PairWith R) found.Nothing
+found_no_pair l = record { witness = None; least = least_pair l; means = nothing }
 
-pub found_pair : {R : ℕ → ℕ → Type 0} {p q : ℕ} → LeastPair R (some (record { first = p; second = q })) → Finds (PairWith R) (found.Pair p q)
+pub found_pair : {R : ℕ → ℕ → Type 0} {p q : ℕ} → LeastPair R (Some (record { first = p; second = q })) → Finds (PairWith R) (found.Pair p q)
 found_pair l = record { witness = _; least = least_pair l; means = pair_of }
 
-pub found_no_cycle : {R : Rel} {before after : List ℕ} → LeastCycle R none → after ≡ before → FindsIn (CycleWith (IsCycle R)) before after found.Nothing
-found_no_cycle l e = record { finds = record { witness = none; least = least_cycle l; means = nothing }; bytes = e }
+pub found_no_cycle : {R : Rel} {before after : List ℕ} → LeastCycle R None → after ≡ before → FindsIn (CycleWith (IsCycle R)) before after found.Nothing
+found_no_cycle l e = record { finds = record { witness = None; least = least_cycle l; means = nothing }; bytes = e }
 
 pub found_cycle :
-    {R : Rel} {before after : List ℕ} {len : ℕ} {c : List ℕ} → LeastCycle R (some c) → len ≡ length c → after ≡ c ++ drop len before → FindsIn (CycleWith (IsCycle R)) before after (found.Cycle len)
+    {R : Rel} {before after : List ℕ} {len : ℕ} {c : List ℕ} → LeastCycle R (Some c) → len ≡ length c → after ≡ c ++ drop len before → FindsIn (CycleWith (IsCycle R)) before after (found.Cycle len)
 found_cycle {before = before} {c = c} l long e = record {
-  finds = record { witness = some (a_cycle c); least = least_cycle l; means = cycle_of long };
+  finds = record { witness = Some (a_cycle c); least = least_cycle l; means = cycle_of long };
   bytes = e ∙ ap (λ (k : ℕ). c ++ drop k before) long;
 }

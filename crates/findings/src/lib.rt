@@ -1,11 +1,11 @@
 // The findings, what a search finds of one, and the verdict, as values.
 #![tactic(auto)]
 
-ghost use Rattle.std.specs.Prelude.{◌≡◌, ◌<◌, ◌≤◌, [], ◌∷◌, length, take, drop};
+ghost use Rattle.std.specs.Prelude.{◌≡◌, ◌<◌, length};
 ghost use Rattle.findings.specs.Family.{all_in_order, finding_at, in_second, name_of, there, found_of};
 
 // The seven findings, in the order of the report.
-#[derive(Clone, Copy)]
+#[derive(Clone, Copy, Debug, PartialEq, Eq)]
 pub enum Finding {
     R,
     A1,
@@ -16,18 +16,8 @@ pub enum Finding {
     W,
 }
 
-const IN_ORDER: [Finding; Finding::COUNT] = [
-    Finding::R,
-    Finding::A1,
-    Finding::A2,
-    Finding::A3,
-    Finding::A4,
-    Finding::A5,
-    Finding::W,
-];
-
 // What a search finds: nothing, one record, two records, or a cycle of so many, whose records stand in a lent buffer.
-#[derive(Clone, Copy)]
+#[derive(Clone, Copy, Debug, PartialEq, Eq)]
 pub enum Found {
     Nothing,
     Record(usize),
@@ -36,7 +26,7 @@ pub enum Found {
 }
 
 // What was found of each finding.
-#[derive(Clone, Copy)]
+#[derive(Clone, Copy, Debug, PartialEq, Eq)]
 pub struct Findings {
     pub r: Found,
     pub a1: Found,
@@ -47,65 +37,48 @@ pub struct Findings {
     pub w: Found,
 }
 
-#[derive(Clone, Copy)]
+#[derive(Clone, Copy, Debug, PartialEq, Eq)]
 pub enum Verdict {
     Undefined,
     Inconsistent,
     Consistent,
 }
 
-// A finding's name: the first bytes of two.
-#[derive(Clone, Copy)]
-pub struct Name {
-    pub bytes: [u8; 2],
-    pub length: usize,
-}
-
 impl Finding {
     // How many there are.
     pub const COUNT: usize = 7;
+
+    // All of them, in the order of the report.
+    pub const IN_ORDER: [Finding; Finding::COUNT] = [
+        Finding::R,
+        Finding::A1,
+        Finding::A2,
+        Finding::A3,
+        Finding::A4,
+        Finding::A5,
+        Finding::W,
+    ];
 
     // The finding at a place of the report, from 0 on.
     pub fn at(place: usize) -> Finding
         requires { place < length all_in_order }
         ensures { result ≡ finding_at place }
     {
-        IN_ORDER[place]
+        Finding::IN_ORDER[place]
     }
 
-    // Its name; a byte past it is 0.
-    pub fn name(self) -> Name
-        ensures { (take result.length result.bytes ≡ name_of self) × (result.length ≤ 2) × (drop result.length result.bytes ≡ drop result.length (0 ∷ 0 ∷ [])) }
+    // Its name.
+    pub fn name(self) -> &'static [u8]
+        ensures { result.now ≡ name_of self }
     {
         match self {
-            Finding::R => Name {
-                bytes: [82, 0],
-                length: 1,
-            },
-            Finding::A1 => Name {
-                bytes: [65, 49],
-                length: 2,
-            },
-            Finding::A2 => Name {
-                bytes: [65, 50],
-                length: 2,
-            },
-            Finding::A3 => Name {
-                bytes: [65, 51],
-                length: 2,
-            },
-            Finding::A4 => Name {
-                bytes: [65, 52],
-                length: 2,
-            },
-            Finding::A5 => Name {
-                bytes: [65, 53],
-                length: 2,
-            },
-            Finding::W => Name {
-                bytes: [87, 0],
-                length: 1,
-            },
+            Finding::R => b"R",
+            Finding::A1 => b"A1",
+            Finding::A2 => b"A2",
+            Finding::A3 => b"A3",
+            Finding::A4 => b"A4",
+            Finding::A5 => b"A5",
+            Finding::W => b"W",
         }
     }
 
@@ -113,15 +86,7 @@ impl Finding {
     pub fn in_second(self) -> bool
         ensures { result ≡ in_second self }
     {
-        match self {
-            Finding::R => false,
-            Finding::A1 => false,
-            Finding::A2 => false,
-            Finding::A3 => false,
-            Finding::A4 => true,
-            Finding::A5 => false,
-            Finding::W => false,
-        }
+        self == Finding::A4
     }
 }
 
@@ -130,12 +95,7 @@ impl Found {
     pub fn there(self) -> bool
         ensures { result ≡ there self }
     {
-        match self {
-            Found::Nothing => false,
-            Found::Record(_) => true,
-            Found::Pair(_, _) => true,
-            Found::Cycle(_) => true,
-        }
+        !matches!(self, Found::Nothing)
     }
 }
 

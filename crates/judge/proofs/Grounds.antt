@@ -1,11 +1,10 @@
 -- What each search stands on, from what they all stand on.
+use Rattle.std.specs.Prelude.{Option, None, Some}
 use mathlib.Core.Path.{◌≡◌, refl, sym, ap, ◌∙◌}
 use mathlib.Core.List.{List}
-use Prim.Native.Nat.{ℕ, ◌+◌, ◌*◌, ◌<◌, ◌≤◌}
+use Prim.Native.Nat.{ℕ, ◌*◌, ◌<◌, ◌≤◌}
 use native.Mathlib.Omega.{arith}
 use lib.ListN.{length, get_or}
-use Rattle.events.specs.declared.Link.{Link}
-use Rattle.events.specs.declared.Link.TheVariants.{Absent, To}
 use Rattle.limits.specs.Limit.{limit}
 use Rattle.findings.specs.declared.Found.TheVariants.{Nothing}
 use Rattle.findings.proofs.Meant.{found_no_pair}
@@ -35,22 +34,22 @@ module _ {t : Table} {n : ℕ} (k : Known t n) where
   said_source : {source : List ℕ} → Column n (source_number t) source → (a s : ℕ) → s < n → a < n → get_or source a 0 ≡ s → Source t s a
   said_source c a s l i e = by (t.at a).source refl
     where
-      by : (x : Link) → (t.at a).source ≡ x → Source t s a
-      by Absent h =
+      by : (x : Option ℕ) → (t.at a).source ≡ x → Source t s a
+      by None h =
           let z = sym (c.says a i ∙ ap link_number h) ∙ e in
           absurd (omega (arith, z, l, k.few))
-      by (To r) h = has_source k.formed s a (h ∙ ap To (sym (c.says a i ∙ ap link_number h) ∙ e))
+      by (Some r) h = has_source k.formed s a (h ∙ ap Some (sym (c.says a i ∙ ap link_number h) ∙ e))
 
   -- rows of what the column says are rows of the readers of each
   pub readers_held :
-      {w : ℕ} {source m : List ℕ} → Column n (source_number t) source → Holds w n (λ a s. (a < n) × (get_or source a 0 ≡ s)) m
+      {w : ℕ} {source : List ℕ} {m : List (List ℕ)} → Column n (source_number t) source → Holds w n (λ a s. (a < n) × (get_or source a 0 ≡ s)) m
       → Holds w n (λ a s. Source t s a) m
   readers_held c =
       holds_iff (λ a s l z. said_source c a s l z.0 z.1)
       (λ a s l x. let i = below k ((source_within k.formed).right x) in (i, (source_leads k c i x).is))
 
 module _
-    {t : Table} {w n : ℕ} {parent arm source sync place kind order hb cf writes race : List ℕ}
+    {t : Table} {w n : ℕ} {parent arm source sync place kind order : List ℕ} {hb cf writes race : List (List ℕ)}
     (g : Based t w n parent arm source sync place kind order hb cf writes race)
   where
     pub reading : Reading t w n kind source place writes hb race
@@ -64,7 +63,7 @@ module _
       by_race = g.by_race;
     }
 
-    module _ {readers : List ℕ} (held : Holds w n (λ a s. (a < n) × (get_or source a 0 ≡ s)) readers) where
+    module _ {readers : List (List ℕ)} (held : Holds w n (λ a s. (a < n) × (get_or source a 0 ≡ s)) readers) where
       pub conflicting : Conflicting t w n parent arm source readers hb cf
       conflicting = record {
         known = g.columns.known;
@@ -94,7 +93,7 @@ module _
 
 -- where no row of conflict has a number, nothing shows A2 or A3
 pub none_in_conflict :
-    {t : Table} {w n : ℕ} {parent arm source readers hb cf : List ℕ} → Conflicting t w n parent arm source readers hb cf
+    {t : Table} {w n : ℕ} {parent arm source : List ℕ} {readers hb cf : List (List ℕ)} → Conflicting t w n parent arm source readers hb cf
     → ¬ ((b : ℕ) × ((a : ℕ) × ((b < n) × On w cf a b))) → FoundInConflict t (record { «a2» = Nothing; «a3» = Nothing })
 none_in_conflict {t} {n = n} g never = record {
   before = found_no_pair (absent (λ p s. none p.first p.second (below k ((hb_within k.formed).right s.before)) s.conflict));
@@ -109,7 +108,7 @@ none_in_conflict {t} {n = n} g never = record {
 
 -- with wb0 the steps among SC records are told
 pub sequenced :
-    {t : Table} {w n : ℕ} {parent sync kind source place order hb writes readers wb0 : List ℕ}
+    {t : Table} {w n : ℕ} {parent sync kind source place order : List ℕ} {hb writes readers wb0 : List (List ℕ)}
     → Rounding t w n parent sync kind source place order hb writes readers → Holds w n (Wb0 t) wb0
     → Sequenced t w n parent sync place order hb writes readers wb0
 sequenced {kind = kind} g held = record {
@@ -128,7 +127,7 @@ sequenced {kind = kind} g held = record {
 
 -- room in which wb0 was laid and its layers made, and room for an answer
 pub sc_room_kept :
-    {w n : ℕ} {parent sync place order hb writes readers wb0 wb0' wb over at po other around around' detour out out' : List ℕ}
+    {w n : ℕ} {parent sync place order : List ℕ} {hb writes readers wb0 wb0' wb over at po other around around' detour : List (List ℕ)} {out out' : List ℕ}
     → length wb0' ≡ length wb0 → length around' ≡ length around → OutRoom n out'
     → ScRoom w n parent sync place order hb writes readers wb0 wb over at po other around detour out
     → ScRoom w n parent sync place order hb writes readers wb0' wb over at po other around' detour out'
@@ -161,7 +160,7 @@ module _ {t : Table} {n : ℕ} {parent arm source sync place kind order : List �
       record { known = c.known; parents = c.parents; arms = c.arms; syncs = c.syncs; places = c.places; kinds = c.kinds; orders = c.orders }
 
   pub based :
-      {w : ℕ} {hb cf writes race hb' cf' writes' race' : List ℕ} → Laid t w n place kind hb cf writes race hb' cf' writes' race'
+      {w : ℕ} {hb cf writes race hb' cf' writes' race' : List (List ℕ)} → Laid t w n place kind hb cf writes race hb' cf' writes' race'
       → Based t w n parent arm source sync place kind order hb' cf' writes' race'
   based l = record { columns = c; by_hb = l.by_hb.holds; by_cf = l.by_cf.holds; by_writes = l.by_at.holds; by_race = l.by_race.holds }
 
@@ -175,9 +174,9 @@ outs low roomy = record {
 
 -- arrays of zeros, which differ by their length alone
 pub rooms_lent :
-    {w n : ℕ} {matrix shows places : List ℕ} → Width w → n ≤ 64 * w → n * w ≤ length matrix → n * w ≤ length shows → (n + 1) * w ≤ length shows → 33 * w ≤ length places
-    → Rooms w n matrix matrix matrix matrix matrix matrix matrix shows matrix matrix places places
-rooms_lent {w} {n} {matrix} {shows} {places} width wide fits less layers high = record {
+    {w n : ℕ} {matrix places : List (List ℕ)} → Width w → n ≤ 64 * w → n < length matrix → 33 ≤ length places
+    → Rooms w n matrix matrix matrix matrix matrix matrix matrix matrix matrix matrix places places
+rooms_lent {w} {n} {matrix} {places} width wide fits high = record {
   for_own = room;
   for_hb = room;
   for_cf = room;
@@ -185,8 +184,8 @@ rooms_lent {w} {n} {matrix} {shows} {places} width wide fits less layers high = 
   for_arms = room;
   for_race = room;
   for_readers = room;
-  for_shows = record { width = width; wide = wide; room = less };
-  for_layers = record { width = width; wide = wide; room = layers };
+  for_shows = room;
+  for_layers = record { width = width; wide = wide; room = omega arith };
   for_owners = room;
   for_wb0 = room;
   for_writes = of_places;
@@ -194,7 +193,7 @@ rooms_lent {w} {n} {matrix} {shows} {places} width wide fits less layers high = 
 }
   where
     room : Room w n n matrix
-    room = record { width = width; wide = wide; room = fits }
+    room = record { width = width; wide = wide; room = omega arith }
 
     of_places : Room w n 33 places
     of_places = record { width = width; wide = wide; room = high }

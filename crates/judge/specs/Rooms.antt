@@ -14,7 +14,7 @@ use Rattle.judge.specs.declared.searching.InConflict.{InConflict}
 use Rattle.judge.specs.declared.searching.Cycles.{Cycles}
 
 -- room for the relations of n records; `shows` has a row more, for layers
-pub record Rooms (w n : ℕ) (own hb cf below arms race readers shows owners wb0 writes at : List ℕ) : Type 0 where
+pub record Rooms (w n : ℕ) (own hb cf below arms race readers shows owners wb0 writes at : List (List ℕ)) : Type 0 where
   pub for_own : Room w n n own
   pub for_hb : Room w n n hb
   pub for_cf : Room w n n cf
@@ -35,7 +35,7 @@ pub record Outs (n : ℕ) (first second : List ℕ) : Type 0 where
   pub for_second : OutRoom n second
 
 -- the columns of the table t, and what every search stands on
-pub record Based (t : Table) (w n : ℕ) (parent arm source sync place kind order hb cf writes race : List ℕ) : Type 0 where
+pub record Based (t : Table) (w n : ℕ) (parent arm source sync place kind order : List ℕ) (hb cf writes race : List (List ℕ)) : Type 0 where
   pub columns : Columns t n parent arm source sync place kind order
   pub by_hb : Holds w n (Hb t) hb
   pub by_cf : Holds w n (Conflict t) cf
@@ -43,7 +43,7 @@ pub record Based (t : Table) (w n : ℕ) (parent arm source sync place kind orde
   pub by_race : Holds w n (EarlierRace t) race
 
 -- what tells A2 and A3
-pub record Conflicting (t : Table) (w n : ℕ) (parent arm source readers hb cf : List ℕ) : Type 0 where
+pub record Conflicting (t : Table) (w n : ℕ) (parent arm source : List ℕ) (readers hb cf : List (List ℕ)) : Type 0 where
   pub known : Known t n
   pub parents : Column n (parent_number t) parent
   pub arms : Column n (arm_number t) arm
@@ -58,7 +58,7 @@ pub record FoundInConflict (t : Table) (x : InConflict) : Type 0 where
   pub sources : Finds (Shows t A3) x.«a3»
 
 -- what tells A1 and A4
-pub record Rounding (t : Table) (w n : ℕ) (parent sync kind source place order hb writes readers : List ℕ) : Type 0 where
+pub record Rounding (t : Table) (w n : ℕ) (parent sync kind source place order : List ℕ) (hb writes readers : List (List ℕ)) : Type 0 where
   pub writing : Writing t w n parent sync kind source place writes
   pub orders : Column n (order_number t) order
   pub by_hb : Holds w n (Hb t) hb

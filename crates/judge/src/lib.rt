@@ -14,7 +14,7 @@ use findings::{Findings, Verdict};
 use judging::{has_room, verdict_of};
 use record::places::SIZE;
 use refusals::Refusal;
-use table::{Tested, length_ok, test_records};
+use table::{length_ok, test_records};
 
 // What a judging finds; the records of the cycles stand in the two lent buffers.
 #[derive(Drop)]
@@ -22,12 +22,6 @@ pub struct Report {
     pub events: usize,
     pub findings: Findings,
     pub verdict: Verdict,
-}
-
-#[derive(Drop)]
-pub enum Judged {
-    Refused(Refusal),
-    Reported(Report),
 }
 
 // The whole report of a sound table of n records.
@@ -45,26 +39,24 @@ fn report_of(table: &[u8], n: usize, first: &mut [u8], second: &mut [u8]) -> Rep
 }
 
 // The records, once the length and the room are right.
-fn judge_records(table: &[u8], first: &mut [u8], second: &mut [u8]) -> Judged
+fn judge_records(table: &[u8], first: &mut [u8], second: &mut [u8]) -> Result<Report, Refusal>
     requires { T (length_ok (length table.now)) × Roomy first.old second.old }
     ensures { JudgeAnswer table.now first.old first.new second.old second.new result }
 {
     let count = table.len() / SIZE;
-    match test_records(table, count) {
-        Tested::Sound(n) => Judged::Reported(report_of(table, n, first, second)),
-        Tested::Refused(r) => Judged::Refused(r),
-    }
+    let n = test_records(table, count)?;
+    Ok(report_of(table, n, first, second))
 }
 
 // The judging of a table: "Order of a judging: 1, 11, then records." The answer stands in a local, and there is one way out: a way out before the frame
 // of this function is made has been compiled wrong (docs/DECISIONS.md, 37).
-pub fn judge(table: &[u8], first: &mut [u8], second: &mut [u8]) -> Judged
+pub fn judge(table: &[u8], first: &mut [u8], second: &mut [u8]) -> Result<Report, Refusal>
     ensures { JudgeAnswer table.now first.old first.new second.old second.new result }
 {
     let len = table.len();
-    let mut judged = Judged::Refused(Refusal::Length);
+    let mut judged = Err(Refusal::Length);
     if length_ok(len) {
-        judged = Judged::Refused(Refusal::Room);
+        judged = Err(Refusal::Room);
         if has_room(first.len(), second.len()) {
             judged = judge_records(table, first, second);
         }

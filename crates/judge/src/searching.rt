@@ -1,8 +1,7 @@
 // The least witness of each finding of a sound table, searched for in rows of its relations.
-ghost use Rattle.std.specs.Prelude.{◌≤◌};
-ghost use Rattle.limits.specs.Limit.{small, middle};
+ghost use Rattle.std.specs.Prelude.{◌*◌, ◌^◌, ◌<◌, ◌≤◌};
 ghost use Rattle.model.specs.Table.{Table};
-ghost use Rattle.rows.specs.Rows.{Room};
+ghost use Rattle.rows.specs.Rows.{Room, Width};
 ghost use Rattle.combined.specs.Writes.{HandingRoom};
 ghost use Rattle.cycle.specs.Rounds.{OutRoom};
 ghost use Rattle.table.specs.Events.{events_of};
@@ -14,7 +13,7 @@ ghost use Rattle.judge.specs.Rooms.{Rooms, Outs, Based, Conflicting, FoundInConf
 ghost use Rattle.judge.specs.Parts.{FoundAll};
 
 use basis::lay;
-use columns::read;
+use columns::{Fields, read};
 use cycle::goes_back;
 use findings::{Findings, Found};
 use limits::{LIMIT, MIDDLE, SMALL};
@@ -44,39 +43,24 @@ struct Cycles {
 }
 
 // A2 and A3. Where no records conflict there is nothing to be found. `below`, `arms`, `conflicting` and `shows` are room to work in.
-fn find_in_conflict(
-    parent: &[u8],
-    arm: &[u8],
-    source: &[u8],
-    readers: &[u64],
-    hb: &[u64],
-    cf: &[u64],
-    below: &mut [u64],
-    arms: &mut [u64],
-    conflicting: &mut [u64],
-    shows: &mut [u64],
-    w: usize,
+fn find_in_conflict<const W: usize>(
+    of: &Fields,
+    readers: &[[u64; W]],
+    hb: &[[u64; W]],
+    cf: &[[u64; W]],
+    below: &mut [[u64; W]],
+    arms: &mut [[u64; W]],
+    conflicting: &mut [[u64; W]],
+    shows: &mut [[u64; W]],
     n: usize,
 ) -> InConflict
-    requires { SourceRoom w n parent.now arm.now source.now readers.now hb.now below.old arms.old conflicting.old shows.old × Room w n n cf.now }
-    ensures { (t : Table) → Conflicting t w n parent.now arm.now source.now readers.now hb.now cf.now → FoundInConflict t result }
+    requires { SourceRoom W n of.now.parent of.now.arm of.now.source readers.now hb.now below.old arms.old conflicting.old shows.old × Room W n n cf.now }
+    ensures { (t : Table) → Conflicting t W n of.now.parent of.now.arm of.now.source readers.now hb.now cf.now → FoundInConflict t result }
 {
-    if relates_any(cf, w, n) {
-        let a2 = find_before_in_conflict(hb, cf, shows, w, n);
-        let a3 = find_sources_in_conflict(
-            parent,
-            arm,
-            source,
-            readers,
-            hb,
-            below,
-            arms,
-            conflicting,
-            shows,
-            w,
-            n,
-        );
-        InConflict { a2: a2, a3: a3 }
+    if relates_any(cf, n) {
+        let a2 = find_before_in_conflict(hb, cf, shows, n);
+        let a3 = find_sources_in_conflict(of, readers, hb, below, arms, conflicting, shows, n);
+        InConflict { a2, a3 }
     } else {
         InConflict {
             a2: Found::Nothing,
@@ -86,275 +70,156 @@ fn find_in_conflict(
 }
 
 // A1 and A4: wb0, its least cycle, and that of the steps among SC records. What is lent from `owners` to `detour` is room to work in.
-fn find_cycles(
-    parent: &[u8],
-    source: &[u8],
-    sync: &[u8],
-    place: &[u8],
-    kind: &[u8],
-    order: &[u8],
-    hb: &[u64],
-    writes: &[u64],
-    readers: &[u64],
-    owners: &mut [u64],
-    wb0: &mut [u64],
-    wb: &mut [u64],
-    over: &mut [u64],
-    at: &mut [u64],
-    po: &mut [u64],
-    other: &mut [u64],
-    around: &mut [u64],
-    detour: &mut [u64],
+fn find_cycles<const W: usize>(
+    of: &Fields,
+    hb: &[[u64; W]],
+    writes: &[[u64; W]],
+    readers: &[[u64; W]],
+    owners: &mut [[u64; W]],
+    wb0: &mut [[u64; W]],
+    wb: &mut [[u64; W]],
+    over: &mut [[u64; W]],
+    at: &mut [[u64; W]],
+    po: &mut [[u64; W]],
+    other: &mut [[u64; W]],
+    around: &mut [[u64; W]],
+    detour: &mut [[u64; W]],
     first: &mut [u8],
     second: &mut [u8],
-    w: usize,
     n: usize,
 ) -> Cycles
-    requires { HandingRoom w n parent.now sync.now kind.now source.now place.now writes.now owners.old wb0.old × ScRoom w n parent.now sync.now place.now order.now hb.now writes.now readers.now wb0.old wb.old over.old at.old po.old other.old around.old detour.old second.old × OutRoom n first.old × ((t : Table) × Rounding t w n parent.now sync.now kind.now source.now place.now order.now hb.now writes.now readers.now) }
-    ensures { (t : Table) → Rounding t w n parent.now sync.now kind.now source.now place.now order.now hb.now writes.now readers.now → FoundCycles t first.old first.new second.old second.new result }
+    requires { HandingRoom W n of.now.parent of.now.sync of.now.kind of.now.source of.now.place writes.now owners.old wb0.old × ScRoom W n of.now.parent of.now.sync of.now.place of.now.order hb.now writes.now readers.now wb0.old wb.old over.old at.old po.old other.old around.old detour.old second.old × OutRoom n first.old × ((t : Table) × Rounding t W n of.now.parent of.now.sync of.now.kind of.now.source of.now.place of.now.order hb.now writes.now readers.now) }
+    ensures { (t : Table) → Rounding t W n of.now.parent of.now.sync of.now.kind of.now.source of.now.place of.now.order hb.now writes.now readers.now → FoundCycles t first.old first.new second.old second.new result }
 {
-    lay_writes(parent, sync, kind, source, place, writes, owners, wb0, w, n);
-    let back = goes_back(wb0, w, n);
-    let a1 = find_write_cycle(wb0, back, around, first, w, n);
+    lay_writes(of, writes, owners, wb0, n);
+    let back = goes_back(wb0, n);
+    let a1 = find_write_cycle(wb0, back, around, first, n);
     let a4 = find_sc_cycle(
-        parent, sync, place, order, hb, writes, readers, wb0, back, wb, over, at, po, other,
-        around, detour, second, // the cycle of A4
-        w, n,
+        of, hb, writes, readers, wb0, back, wb, over, at, po, other, around, detour, second, // the cycle of A4
+        n,
     );
-    Cycles { a1: a1, a4: a4 }
+    Cycles { a1, a4 }
 }
 
 // Each finding, from the columns and from what was laid. A room is lent again where what stands in it is no longer asked for.
-fn find_each(
-    parent: &[u8],
-    arm: &[u8],
-    source: &[u8],
-    sync: &[u8],
-    place: &[u8],
-    kind: &[u8],
-    order: &[u8],
-    hb: &[u64],
-    writes: &[u64],
-    cf: &mut [u64],
-    race: &mut [u64],
-    own: &mut [u64],
-    below: &mut [u64],
-    arms: &mut [u64],
-    readers: &mut [u64],
-    shows: &mut [u64],
-    owners: &mut [u64],
-    wb0: &mut [u64],
-    at: &mut [u64],
+fn find_each<const W: usize>(
+    of: &Fields,
+    hb: &[[u64; W]],
+    writes: &[[u64; W]],
+    cf: &mut [[u64; W]],
+    race: &mut [[u64; W]],
+    own: &mut [[u64; W]],
+    below: &mut [[u64; W]],
+    arms: &mut [[u64; W]],
+    readers: &mut [[u64; W]],
+    shows: &mut [[u64; W]],
+    owners: &mut [[u64; W]],
+    wb0: &mut [[u64; W]],
+    at: &mut [[u64; W]],
     first: &mut [u8],
     second: &mut [u8],
-    w: usize,
     n: usize,
 ) -> Findings
-    requires { Rooms w n own.old hb.now cf.old below.old arms.old race.old readers.old shows.old owners.old wb0.old writes.now at.old × Outs n first.old second.old × ((t : Table) × Based t w n parent.now arm.now source.now sync.now place.now kind.now order.now hb.now cf.old writes.now race.old) }
-    ensures { (t : Table) → Based t w n parent.now arm.now source.now sync.now place.now kind.now order.now hb.now cf.old writes.now race.old → FoundAll t first.old first.new second.old second.new result }
+    requires { Rooms W n own.old hb.now cf.old below.old arms.old race.old readers.old shows.old owners.old wb0.old writes.now at.old × Outs n first.old second.old × ((t : Table) × Based t W n of.now.parent of.now.arm of.now.source of.now.sync of.now.place of.now.kind of.now.order hb.now cf.old writes.now race.old) }
+    ensures { (t : Table) → Based t W n of.now.parent of.now.arm of.now.source of.now.sync of.now.place of.now.kind of.now.order hb.now cf.old writes.now race.old → FoundAll t first.old first.new second.old second.new result }
 {
-    let r = find_read(kind, source, place, writes, hb, race, w, n);
-    let racing = find_racing_writes(kind, race, shows, w, n);
-    let a5 = find_token_taken_twice(kind, source, cf, readers, shows, w, n);
-    sorted(source, readers, w, n, n);
-    let pairs = find_in_conflict(
-        parent, arm, source, readers, hb, cf, below, arms, own, shows, w, n,
-    );
+    let r = find_read(of, writes, hb, race, n);
+    let w = find_racing_writes(&of.kind, race, shows, n);
+    let a5 = find_token_taken_twice(of, cf, readers, shows, n);
+    sorted(&of.source, readers, n, n);
+    let pairs = find_in_conflict(of, readers, hb, cf, below, arms, own, shows, n);
     let cycles = find_cycles(
-        parent, source, sync, place, kind, order, hb, writes, readers, owners, wb0, below, arms,
-        at, own, race, shows, cf, first, second, w, n,
+        of, hb, writes, readers, owners, wb0, below, arms, at, own, race, shows, cf, first, second,
+        n,
     );
-    let a1 = cycles.a1;
-    let a2 = pairs.a2;
-    let a3 = pairs.a3;
-    let a4 = cycles.a4;
     Findings {
-        r: r,
-        a1: a1,
-        a2: a2,
-        a3: a3,
-        a4: a4,
-        a5: a5,
-        w: racing,
+        r,
+        a1: cycles.a1,
+        a2: pairs.a2,
+        a3: pairs.a3,
+        a4: cycles.a4,
+        a5,
+        w,
     }
 }
 
-// The same from the table's bytes, in lent room: rows of w words.
-fn find_in(
+// The same from the table's bytes, in room of its own: for each relation N rows of W words, a row more than there are records, for layers.
+fn find_within<const W: usize, const N: usize>(
     table: &[u8],
     n: usize,
-    w: usize,
-    own: &mut [u64],
-    hb: &mut [u64],
-    cf: &mut [u64],
-    below: &mut [u64],
-    arms: &mut [u64],
-    race: &mut [u64],
-    readers: &mut [u64],
-    shows: &mut [u64],
-    owners: &mut [u64],
-    wb0: &mut [u64],
-    writes: &mut [u64],
-    at: &mut [u64],
     first: &mut [u8],
     second: &mut [u8],
 ) -> Findings
-    requires { Counted table.now n × Roomy first.old second.old × Rooms w n own.old hb.old cf.old below.old arms.old race.old readers.old shows.old owners.old wb0.old writes.old at.old }
+    requires lent { Counted table.now n × Roomy first.old second.old }
+    requires width { Width W }
+    requires wide { n ≤ 64 * W }
+    requires rows { n < N }
+    requires small { N * (W * 8) < 2 ^ 63 }
     ensures { FoundAll (events_of table.now) first.old first.new second.old second.new result }
 {
-    let mut parent = [0u8; LIMIT];
-    let mut arm = [0u8; LIMIT];
-    let mut source = [0u8; LIMIT];
-    let mut sync = [0u8; LIMIT];
-    let mut place = [0u8; LIMIT];
-    let mut kind = [0u8; LIMIT];
-    let mut order = [0u8; LIMIT];
-    let mut na = [0u64; 4];
-    read(
-        table,
-        n,
-        &mut parent,
-        &mut arm,
-        &mut source,
-        &mut sync,
-        &mut place,
-        &mut kind,
-        &mut order,
-    );
+    let of = read(table, n);
+    let mut own = [[0u64; W]; N];
+    let mut hb = [[0u64; W]; N];
+    let mut cf = [[0u64; W]; N];
+    let mut below = [[0u64; W]; N];
+    let mut arms = [[0u64; W]; N];
+    let mut race = [[0u64; W]; N];
+    let mut readers = [[0u64; W]; N];
+    let mut shows = [[0u64; W]; N];
+    let mut owners = [[0u64; W]; N];
+    let mut wb0 = [[0u64; W]; N];
+    let mut writes = [[0u64; W]; PLACES];
+    let mut at = [[0u64; W]; PLACES];
+    let mut na = [[0u64; W]; 1];
     lay(
-        &parent, &arm, &sync, &place, &kind, &order, own, below, arms, &mut na, hb, cf, writes,
-        race, w, n,
+        &of,
+        &mut own,
+        &mut below,
+        &mut arms,
+        &mut na,
+        &mut hb,
+        &mut cf,
+        &mut writes,
+        &mut race,
+        n,
     );
     find_each(
-        &parent, &arm, &source, &sync, &place, &kind, &order, hb, writes, cf, race, own, below,
-        arms, readers, shows, owners, wb0, at, first, second, w, n,
-    )
-}
-
-// In room for a small table, a word to a row: less is to be cleared.
-fn find_small(table: &[u8], n: usize, first: &mut [u8], second: &mut [u8]) -> Findings
-    requires { Counted table.now n × Roomy first.old second.old × (n ≤ small) }
-    ensures { FoundAll (events_of table.now) first.old first.new second.old second.new result }
-{
-    let mut own = [0u64; SMALL];
-    let mut hb = [0u64; SMALL];
-    let mut cf = [0u64; SMALL];
-    let mut below = [0u64; SMALL];
-    let mut arms = [0u64; SMALL];
-    let mut race = [0u64; SMALL];
-    let mut readers = [0u64; SMALL];
-    let mut shows = [0u64; SMALL + 1];
-    let mut owners = [0u64; SMALL];
-    let mut wb0 = [0u64; SMALL];
-    let mut writes = [0u64; PLACES];
-    let mut at = [0u64; PLACES];
-    find_in(
-        table,
-        n,
-        1,
-        &mut own,
-        &mut hb,
+        &of,
+        &hb,
+        &writes,
         &mut cf,
+        &mut race,
+        &mut own,
         &mut below,
         &mut arms,
-        &mut race,
         &mut readers,
         &mut shows,
         &mut owners,
         &mut wb0,
-        &mut writes,
         &mut at,
         first,
         second,
-    )
-}
-
-// In room for a middling one, two words to a row.
-fn find_middle(table: &[u8], n: usize, first: &mut [u8], second: &mut [u8]) -> Findings
-    requires { Counted table.now n × Roomy first.old second.old × (n ≤ middle) }
-    ensures { FoundAll (events_of table.now) first.old first.new second.old second.new result }
-{
-    let mut own = [0u64; 2 * MIDDLE];
-    let mut hb = [0u64; 2 * MIDDLE];
-    let mut cf = [0u64; 2 * MIDDLE];
-    let mut below = [0u64; 2 * MIDDLE];
-    let mut arms = [0u64; 2 * MIDDLE];
-    let mut race = [0u64; 2 * MIDDLE];
-    let mut readers = [0u64; 2 * MIDDLE];
-    let mut shows = [0u64; 2 * MIDDLE + 2];
-    let mut owners = [0u64; 2 * MIDDLE];
-    let mut wb0 = [0u64; 2 * MIDDLE];
-    let mut writes = [0u64; 2 * PLACES];
-    let mut at = [0u64; 2 * PLACES];
-    find_in(
-        table,
         n,
-        2,
-        &mut own,
-        &mut hb,
-        &mut cf,
-        &mut below,
-        &mut arms,
-        &mut race,
-        &mut readers,
-        &mut shows,
-        &mut owners,
-        &mut wb0,
-        &mut writes,
-        &mut at,
-        first,
-        second,
     )
 }
 
-// In room for any table, four words to a row.
-fn find_large(table: &[u8], n: usize, first: &mut [u8], second: &mut [u8]) -> Findings
-    requires { Counted table.now n × Roomy first.old second.old }
-    ensures { FoundAll (events_of table.now) first.old first.new second.old second.new result }
-{
-    let mut own = [0u64; 4 * LIMIT];
-    let mut hb = [0u64; 4 * LIMIT];
-    let mut cf = [0u64; 4 * LIMIT];
-    let mut below = [0u64; 4 * LIMIT];
-    let mut arms = [0u64; 4 * LIMIT];
-    let mut race = [0u64; 4 * LIMIT];
-    let mut readers = [0u64; 4 * LIMIT];
-    let mut shows = [0u64; 4 * LIMIT + 4];
-    let mut owners = [0u64; 4 * LIMIT];
-    let mut wb0 = [0u64; 4 * LIMIT];
-    let mut writes = [0u64; 4 * PLACES];
-    let mut at = [0u64; 4 * PLACES];
-    find_in(
-        table,
-        n,
-        4,
-        &mut own,
-        &mut hb,
-        &mut cf,
-        &mut below,
-        &mut arms,
-        &mut race,
-        &mut readers,
-        &mut shows,
-        &mut owners,
-        &mut wb0,
-        &mut writes,
-        &mut at,
-        first,
-        second,
-    )
-}
+// How many rows a small table, a middling one and any other has room for: less is to be cleared for fewer records.
+const SMALL_ROWS: usize = SMALL + 1;
 
-// The same, with room of its own.
+const MIDDLE_ROWS: usize = MIDDLE + 1;
+
+const ROWS: usize = LIMIT + 1;
+
+// The same, with as much room as there are records, and as many words to a row.
 pub fn find_all(table: &[u8], n: usize, first: &mut [u8], second: &mut [u8]) -> Findings
     requires { Counted table.now n × Roomy first.old second.old }
     ensures { FoundAll (events_of table.now) first.old first.new second.old second.new result }
 {
     if n <= SMALL {
-        find_small(table, n, first, second)
+        find_within::<1, SMALL_ROWS>(table, n, first, second)
     } else if n <= MIDDLE {
-        find_middle(table, n, first, second)
+        find_within::<2, MIDDLE_ROWS>(table, n, first, second)
     } else {
-        find_large(table, n, first, second)
+        find_within::<4, ROWS>(table, n, first, second)
     }
 }

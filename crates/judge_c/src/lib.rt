@@ -4,7 +4,6 @@
 ghost use Rattle.judge_c.specs.Called.{WriteAnswerCalled};
 
 use lines::write_answer;
-use phrases::Wrote;
 
 // `lines::write_answer`: how many bytes of the answer were written, and 0 where it has no room.
 #[unsafe(no_mangle)]
@@ -12,7 +11,7 @@ pub extern "C" fn tweedstile_write_answer(table: &[u8], out: &mut [u8]) -> usize
     ensures { WriteAnswerCalled table.now out.old out.new result }
 {
     match write_answer(table, out) {
-        Wrote::Refused(_) => 0,
-        Wrote::Length(len) => len,
+        Err(_) => 0,
+        Ok(len) => len,
     }
 }

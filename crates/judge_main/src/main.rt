@@ -8,8 +8,7 @@ mod tables;
 use crate::said::{say_judging, say_lent};
 use crate::tables::{judge_changed, judge_large, judge_script};
 use limits::LIMIT;
-use programs::examples;
-use programs::large::Large;
+use programs::{examples, large};
 use record::places::{KIND, MARK_SECOND, NONE, PARENT, READ, THREAD};
 use std::io;
 
@@ -93,9 +92,9 @@ fn main(rt: HostRuntime) -> io::Result<()> {
     of_documents(&rt)?;
     arms(&rt)?;
     tokens(&rt)?;
-    judge_large(&rt, b"chain", Large::Chain, 200)?;
-    judge_large(&rt, b"seven", Large::Seven, 36)?;
-    judge_large(&rt, b"circle", Large::Circle, 49)?;
+    judge_large(&rt, b"chain", large::chain, 200)?;
+    judge_large(&rt, b"seven", large::seven, 36)?;
+    judge_large(&rt, b"circle", large::circle, 49)?;
     orders(&rt)?;
     faults(&rt)
 }

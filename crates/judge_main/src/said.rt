@@ -3,25 +3,15 @@ ghost use Rattle.std.specs.Prelude.{◌≤◌, length};
 ghost use Rattle.limits.specs.Limit.{limit};
 
 use findings::{Finding, Findings, Found, Verdict};
-use judge::{Judged, Report};
+use judge::Report;
 use limits::LIMIT;
 use programs::say;
 use programs::say::Form;
 use std::io;
 
-// The first bytes, if there are so many.
-fn front(bytes: &[u8], len: usize) -> &[u8] {
-    if len <= bytes.len() {
-        return &bytes[0..len];
-    }
-    bytes
-}
-
 fn say_name(rt: &impl Print, finding: Finding) -> io::Result<()> {
-    let name = finding.name();
-    let bytes = name.bytes;
     say::text(rt, b" ")?;
-    say::text(rt, front(&bytes, name.length))
+    say::text(rt, finding.name())
 }
 
 fn say_witness(rt: &impl Print, found: Found, records: &[u8]) -> io::Result<()> {
@@ -32,7 +22,12 @@ fn say_witness(rt: &impl Print, found: Found, records: &[u8]) -> io::Result<()> 
             say::number(rt, b" ", p)?;
             say::number(rt, b" ", q)
         }
-        Found::Cycle(len) => say::bytes(rt, Form::Decimal, b" ", front(records, len)),
+        Found::Cycle(len) => say::bytes(
+            rt,
+            Form::Decimal,
+            b" ",
+            records.get(..len).unwrap_or(records),
+        ),
     }
 }
 
@@ -60,8 +55,8 @@ fn say_finding(
 }
 
 fn say_findings(rt: &impl Print, x: Findings, first: &[u8], second: &[u8]) -> io::Result<()> {
-    for place in 0..Finding::COUNT {
-        say_finding(rt, Finding::at(place), x, first, second)?;
+    for finding in Finding::IN_ORDER {
+        say_finding(rt, finding, x, first, second)?;
     }
     Ok(())
 }
@@ -75,11 +70,9 @@ fn say_verdict(rt: &impl Print, verdict: Verdict) -> io::Result<()> {
 }
 
 fn say_report(rt: &impl Print, report: Report, first: &[u8], second: &[u8]) -> io::Result<()> {
-    let x = report.findings;
-    let verdict = report.verdict;
     say::number(rt, b" events ", report.events)?;
-    say_findings(rt, x, first, second)?;
-    say_verdict(rt, verdict)
+    say_findings(rt, report.findings, first, second)?;
+    say_verdict(rt, report.verdict)
 }
 
 fn say_judged(
@@ -89,11 +82,11 @@ fn say_judged(
     second: &mut [u8],
 ) -> io::Result<()> {
     match judge::judge(table, first, second) {
-        Judged::Refused(r) => {
+        Ok(report) => say_report(rt, report, first, second),
+        Err(r) => {
             say::text(rt, b" ")?;
             say::refusal(rt, r)
         }
-        Judged::Reported(report) => say_report(rt, report, first, second),
     }
 }
 

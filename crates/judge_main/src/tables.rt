@@ -4,8 +4,8 @@ ghost use Rattle.limits.specs.Limit.{limit};
 ghost use Rattle.record.specs.Form.{record_size};
 
 use crate::said::say_judging;
+use events::Record;
 use limits::LIMIT;
-use programs::large::Large;
 use programs::script::WIDTH;
 use programs::{examples, large, script};
 use record::places::SIZE;
@@ -22,11 +22,17 @@ pub fn judge_script(rt: &impl Print, name: &[u8], script: &[u8]) -> io::Result<(
 }
 
 // The first `count` records of a large table.
-pub fn judge_large(rt: &impl Print, name: &[u8], large: Large, count: u8) -> io::Result<()>
-    requires { count ≤ limit }
+pub fn judge_large<F: Fn(u8) -> Record>(
+    rt: &impl Print,
+    name: &[u8],
+    numbered: F,
+    count: u8,
+) -> io::Result<()>
+    requires callable { F.IsAlwaysCallable numbered }
+    requires few { count ≤ limit }
 {
     let mut table = [0u8; SIZE * LIMIT];
-    large::write(large, count, &mut table);
+    large::write(numbered, count, &mut table);
     say_judging(rt, name, &table[0..SIZE * (count as usize)])
 }
 

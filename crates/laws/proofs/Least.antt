@@ -1,7 +1,7 @@
 -- Least witnesses: there is one only, and it depends only on what shows the finding.
+use Rattle.std.specs.Prelude.{Option, Some}
 use mathlib.Core.Path.{◌≡◌, refl, ap, ap₂}
 use mathlib.Core.Logic.{◌⊎◌, inl, inr}
-use mathlib.Core.Option.{Option, some}
 use mathlib.Core.List.{List, [], ◌∷◌}
 use Prim.Native.Nat.{ℕ, ◌<◌, ◌≤◌}
 use native.Mathlib.Omega.{arith}
@@ -15,7 +15,7 @@ pub least_one :
 least_one anti (Least.absent f) (Least.absent g) = refl
 least_one anti (Least.absent f) (Least.least {a = b} q g) = absurd (f b q)
 least_one anti (Least.least {a = a} p f) (Least.absent g) = absurd (g a p)
-least_one anti (Least.least {a = a} p f) (Least.least {a = b} q g) = ap some (anti a b (f b q) (g a p))
+least_one anti (Least.least {a = a} p f) (Least.least {a = b} q g) = ap Some (anti a b (f b q) (g a p))
 
 pub number_one : (a b : ℕ) → a ≤ b → b ≤ a → a ≡ b
 number_one a b h k = omega arith

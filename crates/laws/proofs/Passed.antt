@@ -1,6 +1,6 @@
 -- Searches upward: what was passed, and the least that is found.
+use Rattle.std.specs.Prelude.{None, Some}
 use mathlib.Core.Path.{◌≡◌, sym, subst}
-use mathlib.Core.Option.{none, some}
 use Prim.Native.Nat.{ℕ, ◌+◌, ◌≤◌, ◌<◌}
 use native.Mathlib.Omega.{arith}
 use native.Mathlib.Decide.{dec_lt}
@@ -8,7 +8,7 @@ use Rattle.laws.specs.Least.{Least, Pair, PairAtMost, by_first, by_second, Least
 use Rattle.laws.proofs.Closure.{tri}
 use Rattle.laws.proofs.Steps.{Within}
 
-pub number_found : {P : ℕ → Type 0} {k : ℕ} → ((j : ℕ) → j < k → ¬ P j) → P k → LeastNumber P (some k)
+pub number_found : {P : ℕ → Type 0} {k : ℕ} → ((j : ℕ) → j < k → ¬ P j) → P k → LeastNumber P (Some k)
 number_found {P} {k} none_below p = Least.least p (λ j q. by j q (dec_lt j k))
   where
     by : (j : ℕ) → P j → Dec (j < k) → k ≤ j
@@ -38,10 +38,10 @@ module _ {P : ℕ → ℕ → Type 0} where
   pub passed_row : {n p q : ℕ} → Within n P → n ≤ q → Passed P p q → Passed P (p + 1) 0
   passed_row w h k = passed_over (λ y s. k.here y (omega (arith, w.right s)) s) k
 
-  pub passed_all : {n p q : ℕ} → Within n P → n ≤ p → Passed P p q → LeastPair P none
+  pub passed_all : {n p q : ℕ} → Within n P → n ≤ p → Passed P p q → LeastPair P None
   passed_all w h k = Least.absent (λ z s. k.rows z.first z.second (omega (arith, w.left s)) s)
 
-  pub passed_found : {p q : ℕ} → P p q → Passed P p q → LeastPair P (some (record { first = p; second = q }))
+  pub passed_found : {p q : ℕ} → P p q → Passed P p q → LeastPair P (Some (record { first = p; second = q }))
   passed_found {p} {q} s k = Least.least {a = record { first = p; second = q }} s (λ z t.
       tri z.first p (λ l. absurd (k.rows z.first z.second l t)) (λ e. same z e t (dec_lt z.second q)) (λ g. by_first g))
     where

@@ -1,14 +1,14 @@
 -- Walks and cycles of any relation: a shortest closed walk is a cycle; different records below n are at most n; the least next record,
 -- again and again, gives the least cycle.
+use Rattle.std.specs.Prelude.{Some}
 use Prim.Native.Nat.{ℕ, zero, suc, ◌+◌, ◌<◌, ◌≤◌}
 use mathlib.Core.Path.{◌≡◌, refl, sym, subst}
 use mathlib.Core.List.{List, [], ◌∷◌, ◌++◌}
 use mathlib.Core.Logic.{◌⊎◌, inl, inr, ⊎_elim}
-use mathlib.Core.Option.{some}
 use lib.ListN.{length}
 use native.Mathlib.Omega.{arith}
 use native.Mathlib.Decide.{ℕ_discrete, dec_lt}
-use Rattle.laws.specs.Steps.{Rel, Plus, one, more, Walk, NotIn, Different, IsCycle}
+use Rattle.laws.specs.Steps.{Rel, Plus, one, Walk, NotIn, Different, IsCycle}
 use Rattle.laws.specs.Least.{Least, ListAtMost, CycleAtMost, fewer, as_many, LeastCycle}
 use Rattle.laws.specs.Tails.{LeastTail}
 use Rattle.laws.proofs.Steps.{Within, plus_trans}
@@ -94,7 +94,7 @@ module _ (R : Rel) where
   -- the least closed walk from the least record of a closed walk of the fewest steps is the least cycle
   pub least_closed_walk :
       {s k : ℕ} {l : List ℕ} → LeastTail R s s k l → ((a : ℕ) (m : List ℕ) → Walk R a m a → k ≤ length m + 1)
-      → ((a : ℕ) (m : List ℕ) → Walk R a m a → length m + 1 ≡ k → s ≤ a) → LeastCycle R (some (s ∷ l))
+      → ((a : ℕ) (m : List ℕ) → Walk R a m a → length m + 1 ≡ k → s ≤ a) → LeastCycle R (Some (s ∷ l))
   least_closed_walk {s} {k} {l} t few first =
       Least.least {a = s ∷ l} (different (length l) (λ c m w. omega (arith, few c m w, t.long)) s l s t.walk (omega arith), t.walk) at_most_each
     where

@@ -1,7 +1,7 @@
 -- Least witnesses of every sort: one only, and the least record, pair or cycle is the least witness.
+use Rattle.std.specs.Prelude.{Option, None, Some}
 use mathlib.Core.Path.{◌≡◌, refl, ap, subst}
 use mathlib.Core.List.{List}
-use mathlib.Core.Option.{Option, none, some}
 use Prim.Native.Nat.{ℕ}
 use Rattle.laws.specs.Least.{Least, Pair, LeastNumber, LeastPair, CycleAtMost}
 use Rattle.laws.specs.Witness.{Witness, a_record, a_pair, a_cycle, AtMost, records, pairs, cycles, LeastWitness, RecordWith, record_with, PairWith, pair_with, CycleWith, cycle_with}
@@ -22,17 +22,17 @@ pub witness_unique : {Shows : Witness → Type 0} {x y : Option Witness} → Lea
 witness_unique = least_one witness_one
 
 -- what a least witness shows, and what none denies
-pub shown : {Shows : Witness → Type 0} {w : Witness} → LeastWitness Shows (some w) → Shows w
+pub shown : {Shows : Witness → Type 0} {w : Witness} → LeastWitness Shows (Some w) → Shows w
 shown (Least.least s l) = s
 
-pub denied_all : {Shows : Witness → Type 0} → LeastWitness Shows none → (w : Witness) → ¬ Shows w
+pub denied_all : {Shows : Witness → Type 0} → LeastWitness Shows None → (w : Witness) → ¬ Shows w
 denied_all (Least.absent n) = n
 
 -- a search among things of one sort is a search among witnesses
 module _ {A : Type 0} (sort : A → Witness) where
   abbrev pub sorted : Option A → Option Witness
-  sorted none = none
-  sorted (some a) = some (sort a)
+  sorted None = None
+  sorted (Some a) = Some (sort a)
 
   least_sorted :
       {O : A → A → Type 0} {S : A → Type 0} {Shows : Witness → Type 0} → ((a b : A) → O a b → AtMost (sort a) (sort b)) → ((a : A) → S a → Shows (sort a)) → ((w : Witness) → Shows w → (a : A) × ((sort a ≡ w) × S a))

@@ -1,12 +1,11 @@
 -- Least witnesses: of all the things that show a finding, the least, or none where nothing shows it.
-use Rattle.std.specs.Prelude.{◌≡◌, ◌⊎◌, List, [], ◌∷◌, ℕ, ◌<◌, ◌≤◌, length}
-use Rattle.std.proofs.Math.Option.{Option, none, some}
+use Rattle.std.specs.Prelude.{◌≡◌, ◌⊎◌, List, [], ◌∷◌, ℕ, ◌<◌, ◌≤◌, length, Option, None, Some}
 use Rattle.laws.specs.Steps.{Rel, IsCycle}
 
 -- the witness by an order: nothing shows it, or this shows it and is at most everything that does
 pub data Least {A : Type 0} (AtMost : A → A → Type 0) (Shows : A → Type 0) : Option A → Type 0 where
-  absent : ((a : A) → ¬ Shows a) → Least AtMost Shows none
-  least : {a : A} → Shows a → ((b : A) → Shows b → AtMost a b) → Least AtMost Shows (some a)
+  absent : ((a : A) → ¬ Shows a) → Least AtMost Shows None
+  least : {a : A} → Shows a → ((b : A) → Shows b → AtMost a b) → Least AtMost Shows (Some a)
 
 -- "least such record"
 abbrev pub LeastNumber : (ℕ → Type 0) → Option ℕ → Type 0

@@ -1,6 +1,5 @@
 -- Witnesses of every sort: one record, two, or a cycle; and which of two is at most the other.
-use Rattle.std.specs.Prelude.{List, ℕ, ◌≤◌}
-use Rattle.std.proofs.Math.Option.{Option}
+use Rattle.std.specs.Prelude.{List, ℕ, ◌≤◌, Option}
 use Rattle.laws.specs.Least.{Least, Pair, PairAtMost, CycleAtMost}
 
 pub data Witness : Type 0 where

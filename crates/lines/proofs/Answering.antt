@@ -1,4 +1,5 @@
 -- The text of a table's answer fits, and stands at the front of the buffer where it was written.
+use Rattle.std.specs.Prelude.{Err, Ok}
 use mathlib.Core.Path.{◌≡◌, refl, sym, subst}
 use mathlib.Core.List.{List}
 use Prim.Native.Nat.{ℕ, ◌+◌, ◌*◌, ◌≤◌}
@@ -10,7 +11,6 @@ use Rattle.refusals.specs.declared.Told.{Told}
 use Rattle.refusals.specs.Numbers.{at, told}
 use Rattle.findings.specs.Family.{all_in_order}
 use Rattle.model.specs.Findings.{Report, Reports}
-use Rattle.table.specs.declared.Tested.TheVariants as tested
 use Rattle.table.specs.Events.{events_of}
 use Rattle.table.specs.Test.{length_ok, FirstFault, first_fault, refused, TestAnswer, wrong_length, records}
 use Rattle.table.proofs.Exact.{named_inside}
@@ -37,12 +37,12 @@ record_long : {b : List ℕ} {x : Told} → T (length_ok (length b)) → FirstFa
 record_long {b} ok (first_fault {n = n} {f = f} inside _ fault) =
     record_short f n (omega (arith, (right_length (length b) ok).within)) (omega (arith, named_inside fault))
 
-refusal_long : {b : List ℕ} {r : Refusal} → TestAnswer b (tested.Refused r) → length (refused_text (told r)) ≤ 30
+refusal_long : {b : List ℕ} {r : Refusal} → TestAnswer b (Err r) → length (refused_text (told r)) ≤ 30
 refusal_long (wrong_length _ e) = omega (arith, wrong_length_long e)
 refusal_long (records ok (refused x)) = record_long ok x
 
 report_long :
-    {b : List ℕ} {n : ℕ} {x : Report} → TestAnswer b (tested.Sound n) → Reports (events_of b) x
+    {b : List ℕ} {n : ℕ} {x : Report} → TestAnswer b (Ok n) → Reports (events_of b) x
     → length (report_text n x.witness x.verdict) ≤ 32 + length all_in_order * (8 + 4 * n)
 report_long {b} {n} {x} test right =
     let sound = sound_table b n test in

@@ -1,5 +1,5 @@
 -- How long the report can be, by the count of its records.
-use mathlib.Core.Option.{Option, some}
+use Rattle.std.specs.Prelude.{Option, Some}
 use mathlib.Core.List.{List, [], ◌∷◌, ◌++◌}
 use Prim.Native.Nat.{ℕ, ◌+◌, ◌*◌, ◌≤◌}
 use native.Mathlib.Nat.{suc-mul}
@@ -31,7 +31,7 @@ module _ {n : ℕ} (few : n ≤ limit) where
   each_short (a ∷ l) b =
       omega (arith, length-append (spaced a) (spaced_each l), decimal_3 a (omega (arith, b.0)), each_short l b.1)
 
-  fits_short : {w : Witness} → Fits n w → length (witness_text (some w)) ≤ 5 + 4 * n
+  fits_short : {w : Witness} → Fits n w → length (witness_text (Some w)) ≤ 5 + 4 * n
   fits_short (one_inside {r = r} h) = omega (arith, decimal_3 r (omega arith))
   fits_short (two_inside {p = p} h k) =
       omega (

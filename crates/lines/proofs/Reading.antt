@@ -1,8 +1,8 @@
 -- What was found and where its records stand, read again as the witness of a finding.
+use Rattle.std.specs.Prelude.{Option, Some}
 use mathlib.Core.Path.{◌≡◌, refl, sym, ap, ap₂, subst, ◌∙◌}
 use mathlib.Core.Bool.{Bool, true, false, cond}
 use mathlib.Core.List.{List}
-use mathlib.Core.Option.{Option, some}
 use Prim.Native.Nat.{ℕ}
 use native.Mathlib.Omega.{arith}
 use lib.ListN.{length, drop, length-append}
@@ -41,7 +41,7 @@ lent_gives before Means.nothing = record { witness = refl; whole = tt }
 lent_gives before record_of = record { witness = refl; whole = tt }
 lent_gives before pair_of = record { witness = refl; whole = tt }
 lent_gives before (cycle_of {len = len} {c = c} e) = record {
-  witness = ap (λ (l : List ℕ). some (a_cycle l)) (take_at c (drop (length c) before) len (sym e));
+  witness = ap (λ (l : List ℕ). Some (a_cycle l)) (take_at c (drop (length c) before) len (sym e));
   whole = omega (arith, e, length-append c (drop (length c) before));
 }
 
@@ -69,11 +69,11 @@ module _ {t : Table} {x : Findings} {report : Report} (before₁ before₂ : Lis
   one_gives f (Least.absent _) e Means.nothing = record { witness = refl; whole = tt }
   one_gives f (Least.least s _) e m = go (stands t f s) e m
     where
-      go : {v : Witness} {y : Found} → Stands f v → some v ≡ report.witness f → Means y (some v) → Gives y (buffer_of f first second) (some v)
+      go : {v : Witness} {y : Found} → Stands f v → Some v ≡ report.witness f → Means y (Some v) → Gives y (buffer_of f first second) (Some v)
       go no_buffer_for_one e record_of = record { witness = refl; whole = tt }
       go no_buffer_for_two e pair_of = record { witness = refl; whole = tt }
       go {v} {y} (in_its_buffer one) e m =
-          subst (λ (l : List ℕ). Gives y l (some v)) (sym (holds_it f e one)) (lent_gives (buffer_of f before₁ before₂) m)
+          subst (λ (l : List ℕ). Gives y l (Some v)) (sym (holds_it f e one)) (lent_gives (buffer_of f before₁ before₂) m)
 
   pub witnesses_are : witnesses x first second ≡ report.witness
   witnesses_are = λ i f. (one_gives f (right.least f) refl (means f)).witness i

@@ -1,6 +1,5 @@
 -- The report as text: every byte of every line that document 01 shows.
-use Rattle.std.proofs.Math.Option.{Option, none, some}
-use Rattle.std.specs.Prelude.{List, [], ◌∷◌, ◌++◌, ℕ}
+use Rattle.std.specs.Prelude.{List, [], ◌∷◌, ◌++◌, ℕ, Option, None, Some}
 use Rattle.laws.specs.Witness.{Witness, a_record, a_pair, a_cycle}
 use Rattle.findings.specs.declared.Finding.{Finding}
 use Rattle.findings.specs.declared.Verdict.{Verdict}
@@ -33,10 +32,10 @@ verdict_text Consistent = 32 ∷ 99 ∷ 111 ∷ 110 ∷ 115 ∷ 105 ∷ 115 ∷ 
 
 -- "`none` or its numbers"
 abbrev pub witness_text : Option Witness → List ℕ
-witness_text none = none_word
-witness_text (some (a_record n)) = spaced n
-witness_text (some (a_pair p)) = spaced p.first ++ spaced p.second
-witness_text (some (a_cycle l)) = spaced_each l
+witness_text None = none_word
+witness_text (Some (a_record n)) = spaced n
+witness_text (Some (a_pair p)) = spaced p.first ++ spaced p.second
+witness_text (Some (a_cycle l)) = spaced_each l
 
 abbrev pub finding_line : (Finding → Option Witness) → Finding → List ℕ
 finding_line witness f = line (name_of f) (witness_text (witness f))

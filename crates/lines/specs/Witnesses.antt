@@ -1,6 +1,5 @@
 -- The witness of each finding as a judging leaves it: in what was found, and in the two buffers with the records of the cycles.
-use Rattle.std.specs.Prelude.{cond, List, ℕ, ◌≤◌, length, take}
-use Rattle.std.proofs.Math.Option.{Option, none, some}
+use Rattle.std.specs.Prelude.{cond, List, ℕ, ◌≤◌, length, take, Option, None, Some}
 use Rattle.laws.specs.Witness.{Witness, a_record, a_pair, a_cycle}
 use Rattle.findings.specs.declared.Finding.{Finding}
 use Rattle.findings.specs.declared.Found.{Found}
@@ -10,10 +9,10 @@ use Rattle.findings.specs.Family.{in_second, found_of}
 
 -- the witness that was found, with the records of a cycle at the front of a buffer
 abbrev pub witness_in : Found → List ℕ → Option Witness
-witness_in Nothing records = none
-witness_in (Record n) records = some (a_record n)
-witness_in (Pair p q) records = some (a_pair (record { first = p; second = q }))
-witness_in (Cycle len) records = some (a_cycle (take len records))
+witness_in Nothing records = None
+witness_in (Record n) records = Some (a_record n)
+witness_in (Pair p q) records = Some (a_pair (record { first = p; second = q }))
+witness_in (Cycle len) records = Some (a_cycle (take len records))
 
 -- all records of a cycle are there
 abbrev pub Whole : Found → List ℕ → Type 0

@@ -1,5 +1,5 @@
 // The lines of the findings, one after another.
-ghost use Rattle.std.specs.Prelude.{◌≡◌, ◌≤◌, take};
+ghost use Rattle.std.specs.Prelude.{◌≡◌};
 ghost use Rattle.text.specs.Text.{Written};
 ghost use Rattle.findings.specs.Family.{all_in_order, name_of};
 ghost use Rattle.phrases.specs.Phrases.{line};
@@ -26,29 +26,12 @@ fn put_witness(out: &mut [u8], at: usize, found: Found, records: &[u8]) -> usize
     }
 }
 
-// The first bytes of two.
-fn put_front(out: &mut [u8], at: usize, bytes: [u8; 2], length: usize) -> usize
-    requires { (length ≤ 2) × Room out.old at (take length bytes) }
-    ensures { Written out.old at (take length bytes) out.new result }
-{
-    put(out, at, &bytes[..length])
-}
-
-fn put_name(out: &mut [u8], at: usize, finding: Finding) -> usize
-    requires { Room out.old at (name_of finding) }
-    ensures { Written out.old at (name_of finding) out.new result }
-{
-    let name = finding.name();
-    let bytes = name.bytes;
-    put_front(out, at, bytes, name.length)
-}
-
 // The line of one finding; the records of a cycle stand at the front of `records`.
 fn finding_line(out: &mut [u8], at: usize, finding: Finding, found: Found, records: &[u8]) -> usize
     requires { Room out.old at (line (name_of finding) (witness_text (witness_in found records.now))) × Whole found records.now }
     ensures { Written out.old at (line (name_of finding) (witness_text (witness_in found records.now))) out.new result }
 {
-    let name = put_name(out, at, finding);
+    let name = put(out, at, finding.name());
     let rest = put_witness(out, name, found, records);
     put(out, rest, b"\n")
 }
@@ -75,8 +58,7 @@ pub fn put_findings<'a>(
     ensures { Written out.old at (lines_of (witnesses x first.now second.now) all_in_order) out.new result }
 {
     let mut next = at;
-    for place in 0..Finding::COUNT {
-        let finding = Finding::at(place);
+    for finding in Finding::IN_ORDER {
         let found = x.of(finding);
         let records = buffer_of(finding, first, second);
         next = finding_line(out, next, finding, found, records);

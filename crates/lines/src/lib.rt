@@ -15,9 +15,10 @@ ghost use Rattle.lines.specs.Answer.{TextAt, WriteAnswer};
 
 use crate::family::put_findings;
 use findings::{Finding, Findings, Verdict};
-use judge::Judged;
+use judge::Report;
 use limits::LIMIT;
-use phrases::{Wrote, hand_over, number_line, put_refused};
+use phrases::{hand_over, number_line, put_refused};
+use refusals::Refusal;
 use text::put;
 
 // Room for the longest text: `longest` of the definitions.
@@ -52,13 +53,18 @@ fn put_report<'a>(
 }
 
 // The text of a judging's answer at the front of `out`, and its length; the records of its cycles stand at the front of `first` and `second`.
-pub fn put_judged<'a>(judged: Judged, first: &'a [u8], second: &'a [u8], out: &mut [u8]) -> usize
+pub fn put_judged<'a>(
+    judged: Result<Report, Refusal>,
+    first: &'a [u8],
+    second: &'a [u8],
+    out: &mut [u8],
+) -> usize
     requires { Room out.old 0 (judged_text judged first.now second.now) × JudgedWhole judged first.now second.now }
     ensures { Written out.old 0 (judged_text judged first.now second.now) out.new result }
 {
     match judged {
-        Judged::Refused(r) => put_refused(out, 0, r.told()),
-        Judged::Reported(x) => {
+        Err(r) => put_refused(out, 0, r.told()),
+        Ok(x) => {
             let found = x.findings;
             let verdict = x.verdict;
             put_report(out, x.events, found, verdict, first, second)
@@ -78,7 +84,7 @@ fn put_answer(table: &[u8], out: &mut [u8]) -> usize
 }
 
 // Writes the answer of a judging as text: the report's lines, or the refusal's.
-pub fn write_answer(table: &[u8], out: &mut [u8]) -> Wrote
+pub fn write_answer(table: &[u8], out: &mut [u8]) -> Result<usize, Refusal>
     ensures { WriteAnswer table.now out.old out.new result }
 {
     let mut text = [0u8; TEXT];

@@ -1,10 +1,9 @@
 -- What the link to a source tells.
+use Rattle.std.specs.Prelude.{Option, Some}
 use mathlib.Core.Path.{◌≡◌, sym, subst, ◌∙◌}
 use mathlib.Core.Bool.{Bool, false}
 use mathlib.Core.List.{List}
 use Prim.Native.Nat.{ℕ, ◌<◌}
-use Rattle.events.specs.declared.Link.{Link}
-use Rattle.events.specs.declared.Link.TheVariants.{To}
 use Rattle.laws.specs.Says.{Says}
 use Rattle.laws.proofs.Says.{says_no, says_iff}
 use Rattle.model.specs.Table.{Table, Source, NoSource}
@@ -17,11 +16,11 @@ use Rattle.facts.proofs.Records.{formed, within_count}
 use Rattle.links.specs.Sourced.{FromSource}
 
 -- a link that is that of record r's source
-module _ {bytes : List ℕ} {n : ℕ} (r : ℕ) {link : Link} (counted : Counted bytes n) (is : link ≡ ((events_of bytes).at r).source) where
-  pub the_source : {s : ℕ} → link ≡ To s → Source (events_of bytes) s r
+module _ {bytes : List ℕ} {n : ℕ} (r : ℕ) {link : Option ℕ} (counted : Counted bytes n) (is : link ≡ ((events_of bytes).at r).source) where
+  pub the_source : {s : ℕ} → link ≡ Some s → Source (events_of bytes) s r
   the_source {s} e = has_source (formed counted) s r (sym is ∙ e)
 
-  pub source_low : {s : ℕ} → link ≡ To s → s < n
+  pub source_low : {s : ℕ} → link ≡ Some s → s < n
   source_low e = (within_count counted (source_within (formed counted))).left (the_source e)
 
 module _ {t : Table} {R : ℕ → ℕ → Type 0} {r b : ℕ} where

@@ -1,15 +1,13 @@
 -- Links from record to record: what one leads to.
-use Rattle.std.specs.Prelude.{◌≡◌, ℕ}
-use Rattle.events.specs.declared.Link.{Link}
-use Rattle.events.specs.declared.Link.TheVariants.{To}
+use Rattle.std.specs.Prelude.{◌≡◌, ℕ, Option, Some}
 
 -- the link leads to a number that has P
-pub record Linked (link : Link) (P : ℕ → Type 0) : Type 0 where
+pub record Linked (link : Option ℕ) (P : ℕ → Type 0) : Type 0 where
   pub to : ℕ
-  pub is : link ≡ To to
+  pub is : link ≡ Some to
   pub has : P to
 
 -- the link leads to whatever has P, and to nothing else
-pub record Leads (link : Link) (P : ℕ → Type 0) : Type 0 where
-  pub has : (s : ℕ) → link ≡ To s → P s
-  pub only : (s : ℕ) → P s → link ≡ To s
+pub record Leads (link : Option ℕ) (P : ℕ → Type 0) : Type 0 where
+  pub has : (s : ℕ) → link ≡ Some s → P s
+  pub only : (s : ℕ) → P s → link ≡ Some s

@@ -1,7 +1,7 @@
 -- The search for the least cycle of a relation kept as rows: walks of one step, of two, and so on, until one is closed.
+use Rattle.std.specs.Prelude.{Option, None, Some}
 use mathlib.Core.Path.{◌≡◌, refl, subst, ap}
 use mathlib.Core.Bool.{Bool, true, false, ◌&&◌}
-use mathlib.Core.Option.{Option, none, some}
 use mathlib.Core.List.{List, [], ◌∷◌}
 use Prim.Native.Nat.{ℕ, zero, suc, ◌+◌, ◌<◌, ◌≤◌}
 use native.Mathlib.Numerals.{add-one}
@@ -34,8 +34,8 @@ walks n r zero = rows n r
 walks n r (suc k) = rows n (step_then n r (walks n r k))
 
 abbrev or_zero : Option ℕ → ℕ
-or_zero none = 0
-or_zero (some a) = a
+or_zero None = 0
+or_zero (Some a) = a
 
 -- the least list of k records by which a walk goes from a to home
 abbrev tail : ℕ → (ℕ → ℕ → Bool) → ℕ → ℕ → ℕ → List ℕ
@@ -46,18 +46,18 @@ tail n r home (suc k) a =
 
 -- p has the walks by way of k records: the least closed one, or the search goes on with one record more
 abbrev shortest : ℕ → ℕ → (ℕ → ℕ → Bool) → ℕ → Rows → Option (List ℕ)
-shortest zero n r k p = none
+shortest zero n r k p = None
 shortest (suc fuel) n r k p =
     elim (first_below n (λ s. look p s s)) [
-      | none ↦ shortest fuel n r (suc k) (rows n (step_then n r p))
-      | some s ↦ some (s ∷ tail n r s k s)
+      | None ↦ shortest fuel n r (suc k) (rows n (step_then n r p))
+      | Some s ↦ Some (s ∷ tail n r s k s)
     ]
 
 -- a quick test first: no record is one or more steps before itself
 abbrev pub first_cycle : ℕ → (ℕ → ℕ → Bool) → Option (List ℕ)
 first_cycle n r =
     let p = plus n r in
-    elim (any_below (λ s. look p s s) n) [ true ↦ shortest n n r 0 (rows n r) | false ↦ none ]
+    elim (any_below (λ s. look p s s) n) [ true ↦ shortest n n r 0 (rows n r) | false ↦ None ]
 
 -- By a record more is a step and then the rest
 module _ {R : ℕ → ℕ → Type 0} where
@@ -116,7 +116,7 @@ module _ {n : ℕ} {r : ℕ → ℕ → Bool} {R : ℕ → ℕ → Type 0} (s : 
       go (Least.least {a = m} (e, y) first) rest =
           rw (← add-one k) (chosen R e (rest m y) (λ b l f v q. first b (f, record { way = l; walk = v; long = omega arith })))
 
-  closed_least : (k : ℕ) → NoneShorter R k → (c : ℕ) → By R k c c → ((a : ℕ) → By R k a a → c ≤ a) → LeastCycle R (some (c ∷ tail n r c k c))
+  closed_least : (k : ℕ) → NoneShorter R k → (c : ℕ) → By R k c c → ((a : ℕ) → By R k a a → c ≤ a) → LeastCycle R (Some (c ∷ tail n r c k c))
   closed_least k few c z first =
       least_closed_walk R (tail_least c k c (by_inside z) z) (λ a m v. omega (arith, few a m v))
       (λ a m v q. first a (record { way = m; walk = v; long = omega arith }))
@@ -133,7 +133,7 @@ module _ {n : ℕ} {r : ℕ → ℕ → Bool} {R : ℕ → ℕ → Type 0} (s : 
     where
       go :
           {o : Option ℕ} → LeastNumber (λ a. By R k a a) o → (NoneShorter R (suc k) → LeastCycle R (shortest fuel n r (suc k) (walks n r (suc k))))
-          → LeastCycle R (elim o as (λ x. Option (List ℕ)) [ none ↦ shortest fuel n r (suc k) (walks n r (suc k)) | some c ↦ some (c ∷ tail n r c k c) ])
+          → LeastCycle R (elim o as (λ x. Option (List ℕ)) [ None ↦ shortest fuel n r (suc k) (walks n r (suc k)) | Some c ↦ Some (c ∷ tail n r c k c) ])
       go (Least.absent no_closed) on = on (λ a m v. longer a m v (ℕ_discrete (length m) k))
         where
           longer : (a : ℕ) (m : List ℕ) → Walk R a m a → Dec (length m ≡ k) → suc k ≤ length m
@@ -150,6 +150,6 @@ module _ {n : ℕ} {r : ℕ → ℕ → Bool} {R : ℕ → ℕ → Type 0} (s : 
           let h : a < n = by_inside (record { way = m; walk = x.1; long = refl }) in
           any_of (λ a. look (plus n r) a a) n a h (((plus_tells s w).each a a h h).from (walk_plus R a m a x.1))
 
-      go : (b : Bool) → any_below (λ a. look (plus n r) a a) n ≡ b → LeastCycle R (elim b as (λ x. Option (List ℕ)) [ true ↦ shortest n n r 0 (rows n r) | false ↦ none ])
+      go : (b : Bool) → any_below (λ a. look (plus n r) a a) n ≡ b → LeastCycle R (elim b as (λ x. Option (List ℕ)) [ true ↦ shortest n n r 0 (rows n r) | false ↦ None ])
       go true e = shortest_least n 0 (omega arith) (λ a m v. omega arith)
       go false e = Least.absent (λ c x. subst T e (passes c x))

@@ -1,12 +1,10 @@
 -- What a well-formed table has, record by record: refusals 6, 7 and 8 the other way round.
+use Rattle.std.specs.Prelude.{Option, None, Some}
 use mathlib.Core.Path.{◌≡◌, refl, sym, subst}
-use mathlib.Core.Option.{Option, none, some}
 use Prim.Native.Nat.{ℕ, ◌<◌}
 use native.Mathlib.Omega.{arith}
 use native.Mathlib.Decide.{ℕ_discrete, dec_lt}
 use lib.Dec.{T}
-use Rattle.events.specs.declared.Link.{Link}
-use Rattle.events.specs.declared.Link.TheVariants.{Absent, To}
 use Rattle.events.specs.declared.Record.{Record}
 use Rattle.events.specs.Words.{is_read, is_write, is_sc, order_of, same_location, location_of, at_one_location}
 use Rattle.laws.proofs.Says.{says_dec, says_T, says_eq, by_dec}
@@ -18,19 +16,19 @@ use Rattle.model.proofs.Refusals.{says_root, says_earlier_write}
 -- ---- locations
 
 location_same : (x y : Option ℕ) → T (same_location x y) → x ≡ y
-location_same none none h = absurd h
-location_same none (some b) h = absurd h
-location_same (some a) none h = absurd h
-location_same (some a) (some b) h = let e : a ≡ b = (says_eq a b).to h in λ i. some (e i)
+location_same None None h = absurd h
+location_same None (Some b) h = absurd h
+location_same (Some a) None h = absurd h
+location_same (Some a) (Some b) h = let e : a ≡ b = (says_eq a b).to h in λ i. Some (e i)
 
 location_flip : (x y : Option ℕ) → T (same_location x y) → T (same_location y x)
 location_flip x y h =
     let e = location_same x y h in
     subst (λ (z : Option ℕ). T (same_location z x)) e (subst (λ (z : Option ℕ). T (same_location x z)) (sym e) h)
 
-location_none : (x : Option ℕ) → ¬ T (same_location none x)
-location_none none h = h
-location_none (some b) h = h
+location_none : (x : Option ℕ) → ¬ T (same_location None x)
+location_none None h = h
+location_none (Some b) h = h
 
 module _ (t : Table) where
   abbrev location : ℕ → Option ℕ
@@ -64,7 +62,7 @@ module _ {t : Table} (ok : WellFormed t) where
   sc_inside = inside_by (λ r. T (is_sc (order_of r.event))) (λ h. h)
 
   pub parent_inside : (p n : ℕ) → Parent t p n → Inside t n
-  parent_inside p = inside_by (λ r. r.parent ≡ To p) (absent_to refl)
+  parent_inside p = inside_by (λ r. r.parent ≡ Some p) (absent_to refl)
 
   pub location_left : (a b : ℕ) → OneLocation t a b → Inside t a
   location_left a b =
@@ -85,9 +83,9 @@ module _ {t : Table} (ok : WellFormed t) where
   pub has_parent : (n : ℕ) → Inside t n → ¬ (n ≡ 0) → (p : ℕ) × Parent t p n
   has_parent n h z = go (t.at n).parent refl
     where
-      go : (l : Link) → (t.at n).parent ≡ l → (p : ℕ) × Parent t p n
-      go Absent e = absurd ((ok.sound n h).not_6 (no_parent z e))
-      go (To p) e = (p, e)
+      go : (l : Option ℕ) → (t.at n).parent ≡ l → (p : ℕ) × Parent t p n
+      go None e = absurd ((ok.sound n h).not_6 (no_parent z e))
+      go (Some p) e = (p, e)
 
   pub parent_earlier : (p n : ℕ) → Parent t p n → p < n
   parent_earlier p n e = go (dec_lt p n)
@@ -115,8 +113,8 @@ module _ {t : Table} (ok : WellFormed t) where
       by_dec (says_dec (says_earlier_write t s n)) (λ d. (ok.sound n (source_inside c)).not_7 (no_earlier_write c d))
 
   -- only reads have a source
-  pub has_source : (s n : ℕ) → (t.at n).source ≡ To s → Source t s n
+  pub has_source : (s n : ℕ) → (t.at n).source ≡ Some s → Source t s n
   has_source s n e = record { reads = by_dec (says_dec (says_T (is_read (t.at n).event))) (λ d. absent_to ((ok.sound n inside).only_reads d) e); is = e }
     where
       inside : Inside t n
-      inside = inside_by (λ r. r.source ≡ To s) (absent_to refl) n e
+      inside = inside_by (λ r. r.source ≡ Some s) (absent_to refl) n e

@@ -1,9 +1,9 @@
 -- The definitions' computed mirror: each relation, and each finding that is no cycle, as a test over record numbers. Nobody has to
 -- believe it: MirrorTells proves that each test tells its definition.
+use Rattle.std.specs.Prelude.{None, Some}
 use mathlib.Core.Bool.{Bool, not, ◌&&◌, ◌||◌}
 use Prim.Native.Nat.{ℕ}
 use lib.Dec.{eqb, ltb}
-use Rattle.events.specs.declared.Link.TheVariants.{Absent, To}
 use Rattle.laws.specs.Says.{any_below}
 use Rattle.model.specs.Table.{Table, thread}
 use Rattle.model.proofs.Fields.{same_link, read?, write?, update?, na?, sc?, acquiring?, releasing?, at_one_location?, source_that}
@@ -11,13 +11,13 @@ use Rattle.model.proofs.MirrorRows.{Rows, rows, look, plus}
 
 module _ (t : Table) where
   abbrev pub parent? : ℕ → ℕ → Bool
-  parent? p n = same_link (t.at n).parent (To p)
+  parent? p n = same_link (t.at n).parent (Some p)
 
   abbrev pub source? : ℕ → ℕ → Bool
-  source? s r = read? t r && same_link (t.at r).source (To s)
+  source? s r = read? t r && same_link (t.at r).source (Some s)
 
   abbrev pub no_source? : ℕ → Bool
-  no_source? r = same_link (t.at r).source Absent
+  no_source? r = same_link (t.at r).source None
 
   -- ---- the relations, over the rows of those before
 

@@ -1,6 +1,6 @@
 -- The mirror's witness of each finding, in the order of the report, is on a well-formed table the one that the definitions ask for.
+use Rattle.std.specs.Prelude.{Option, None}
 use mathlib.Core.List.{List, [], ◌∷◌}
-use mathlib.Core.Option.{Option, none}
 use lib.ListN.{get_or}
 use Rattle.findings.specs.declared.Finding.{Finding}
 use Rattle.findings.specs.declared.Finding.TheVariants.{R, A1, A2, A3, A4, A5, W}
@@ -50,7 +50,7 @@ module _ {t : Table} (ok : WellFormed t) where
   abbrev wb : Rows
   wb = plus t.count (look (rows t.count (wb0? t hb)))
 
-  pub mirrored_least : (f : Finding) → LeastWitness (Shows t f) (get_or (mirrored t) (place_of f) none)
+  pub mirrored_least : (f : Finding) → LeastWitness (Shows t f) (get_or (mirrored t) (place_of f) None)
   unfolding mirrored
   mirrored_least R =
       least_record

@@ -1,9 +1,9 @@
 -- On a well-formed table each test of the mirror tells its definition.
+use Rattle.std.specs.Prelude.{None, Some}
 use mathlib.Core.Path.{◌≡◌, refl, subst}
 use mathlib.Core.Logic.{◌⊎◌, inl, inr}
 use Prim.Native.Nat.{ℕ}
 use native.Mathlib.Omega.{arith}
-use Rattle.events.specs.declared.Link.TheVariants.{Absent, To}
 use Rattle.laws.specs.Says.{Says}
 use Rattle.laws.proofs.Says.{says_T, says_eq, says_lt, says_not, says_and, says_or, says_iff, says_any}
 use Rattle.model.specs.Table.{Table, Inside, thread, Source, NoSource}
@@ -17,7 +17,7 @@ use Rattle.model.proofs.Mirror.{source?, no_source?, po_rows, at_or_above?, apar
 
 says_source : (t : Table) (s r : ℕ) → Says (source? t s r) (Source t s r)
 says_source t s r =
-    says_iff (λ (d, e). record { reads = d; is = e }) (λ c. (c.reads, c.is)) (says_and (says_T (read? t r)) (says_link (t.at r).source (To s)))
+    says_iff (λ (d, e). record { reads = d; is = e }) (λ c. (c.reads, c.is)) (says_and (says_T (read? t r)) (says_link (t.at r).source (Some s)))
 
 says_sw : (t : Table) (s r : ℕ) → Says (sw? t s r) (Sw t s r)
 says_sw t s r =
@@ -35,7 +35,7 @@ says_write_or_reader t w x =
 
 module _ {t : Table} (ok : WellFormed t) where
   pub po_tells : Tells t.count (look (po_rows t)) (Po t)
-  po_tells = plus_tells (record { each = λ p n _ _. says_link (t.at n).parent (To p) }) (parent_within ok)
+  po_tells = plus_tells (record { each = λ p n _ _. says_link (t.at n).parent (Some p) }) (parent_within ok)
 
   module _ (po : Rows) (po_ok : Tells t.count (look po) (Po t)) where
     says_above : (a b : ℕ) → Inside t a → Inside t b → Says (at_or_above? t po a b) (AtOrAbove t a b)
@@ -160,7 +160,7 @@ module _ {t : Table} (ok : WellFormed t) where
           (says_or (says_and no_source (says_not (says_write_before r y))) (says_and no_source (says_earlier_race r y))))
         where
           no_source : Says (no_source? t r) (NoSource t r)
-          no_source = says_link (t.at r).source Absent
+          no_source = says_link (t.at r).source None
 
       pub says_R : (r : ℕ) → Inside t r → Says (shows_r? t hb race r) (ShowsR t r)
       says_R r y =

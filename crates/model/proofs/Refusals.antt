@@ -1,15 +1,14 @@
 -- Refusals 6, 7 and 8 as tests, and that each test tells its definition; so for a whole table.
+use Rattle.std.specs.Prelude.{None, Some}
 use mathlib.Core.Path.{◌≡◌, refl}
 use mathlib.Core.Logic.{inl, inr}
 use mathlib.Core.Bool.{Bool, true, not, ◌&&◌, ◌||◌}
-use mathlib.Core.Option.{some}
 use mathlib.Core.List.{List, [], ◌∷◌}
 use Prim.Native.Nat.{ℕ, zero, suc, ◌≤◌}
 use native.Mathlib.Omega.{arith}
 use lib.Dec.{eqb, leb, ltb}
 use lib.ListN.{length, get_or}
 use Rattle.events.specs.declared.Value.TheVariants.{U}
-use Rattle.events.specs.declared.Link.TheVariants.{Absent}
 use Rattle.events.specs.declared.Record.{Record}
 use Rattle.events.specs.Words.{read_of, written_of}
 use Rattle.laws.specs.Says.{Says, any_below}
@@ -20,18 +19,18 @@ use Rattle.model.proofs.Fields.{same_link, says_link, same_value, says_value, li
 
 module _ (t : Table) where
   abbrev pub root? : ℕ → Bool
-  root? n = init? t n && (eqb (thread t n) 0 && same_link (t.at n).parent Absent)
+  root? n = init? t n && (eqb (thread t n) 0 && same_link (t.at n).parent None)
 
   pub says_root : (n : ℕ) → Says (root? n) (Root t n)
   says_root n =
       says_iff (λ (a, (b, c)). record { init = a; thread_0 = b; no_parent = c }) (λ r. (r.init, (r.thread_0, r.no_parent)))
-      (says_and (says_T (init? t n)) (says_and (says_eq (thread t n) 0) (says_link (t.at n).parent Absent)))
+      (says_and (says_T (init? t n)) (says_and (says_eq (thread t n) 0) (says_link (t.at n).parent None)))
 
   -- a test for each clause of 6, in the definition's order
   abbrev pub refused6? : ℕ → Bool
   refused6? n =
       (eqb n 0 && not (root? n))
-      || ((not (eqb n 0) && same_link (t.at n).parent Absent)
+      || ((not (eqb n 0) && same_link (t.at n).parent None)
       || ((not (eqb n 0) && link_that (t.at n).parent (λ p. leb n p))
       || ((not (eqb n 0) && (not (init? t n) && link_that (t.at n).parent (λ p. not (eqb (thread t n) (thread t p)))))
       || (init? t n && any_below (λ m. eqb (thread t m) (thread t n)) n))))
@@ -57,7 +56,7 @@ module _ (t : Table) where
         | thread_stood {m} i l e ↦ inr (inr (inr (inr (i, (m, (l, e))))))
       ])
       (says_or (says_and (says_eq n 0) (says_not (says_root n)))
-      (says_or (says_and later (says_link parent Absent))
+      (says_or (says_and later (says_link parent None))
       (says_or (says_and later (says_link_that parent (λ p e. says_le n p)))
       (says_or (says_and later (says_and (says_not init) (says_link_that parent (λ p e. says_not (says_eq (thread t n) (thread t p))))))
       (says_and init (says_any_below (λ m l. says_eq (thread t m) (thread t n))))))))
@@ -77,8 +76,8 @@ module _ (t : Table) where
   refused7? n =
       source_that t n (λ s. not (earlier_write? s n))
       || (source_that t n (λ s. known_that (written_of (t.at s).event) (λ w. reads_known n (λ v. not (eqb w v))))
-      || (source_that t n (λ s. same_value (written_of (t.at s).event) (some U) && reads_known n (λ v. true))
-      || (same_link (t.at n).source Absent && reads_known n (λ v. true))))
+      || (source_that t n (λ s. same_value (written_of (t.at s).event) (Some U) && reads_known n (λ v. true))
+      || (same_link (t.at n).source None && reads_known n (λ v. true))))
 
   pub says_7 : (n : ℕ) → Says (refused7? n) (Refused7 t n)
   says_7 n =
@@ -98,8 +97,8 @@ module _ (t : Table) where
       ])
       (says_or (says_source_that t n (λ s c. says_not (says_earlier_write s n)))
       (says_or (says_source_that t n (λ s c. says_known_that (written_of (t.at s).event) (λ w. says_known_that value (λ v. says_not (says_eq w v)))))
-      (says_or (says_source_that t n (λ s c. says_and (says_value (written_of (t.at s).event) (some U)) (says_known_that value (λ v. says_T true))))
-      (says_and (says_link (t.at n).source Absent) (says_known_that value (λ v. says_T true))))))
+      (says_or (says_source_that t n (λ s c. says_and (says_value (written_of (t.at s).event) (Some U)) (says_known_that value (λ v. says_T true))))
+      (says_and (says_link (t.at n).source None) (says_known_that value (λ v. says_T true))))))
 
   abbrev two_reads? : ℕ → ℕ → Bool
   two_reads? m n =
@@ -125,14 +124,14 @@ module _ (t : Table) where
 
   abbrev pub sound? : ℕ → Bool
   sound? n =
-      not (refused6? n) && (not (refused7? n) && (not (refused8? n) && (not (not (read? t n)) || same_link (t.at n).source Absent)))
+      not (refused6? n) && (not (refused7? n) && (not (refused8? n) && (not (not (read? t n)) || same_link (t.at n).source None)))
 
   pub says_sound : (n : ℕ) → Says (sound? n) (Sound t n)
   says_sound n =
       says_iff (λ (a, (b, (c, d))). record { not_6 = a; not_7 = b; not_8 = c; only_reads = d }) (λ s. (s.not_6, (s.not_7, (s.not_8, s.only_reads))))
       (says_and (says_not (says_6 n))
       (says_and (says_not (says_7 n))
-      (says_and (says_not (says_8 n)) (says_if (says_not (says_T (read? t n))) (says_link (t.at n).source Absent)))))
+      (says_and (says_not (says_8 n)) (says_if (says_not (says_T (read? t n))) (says_link (t.at n).source None)))))
 
   -- of a table that ends with its last record
   unfoldable pub well_formed? : Bool

@@ -1,11 +1,10 @@
 -- A renumbering of records of a well-formed table is well-formed, if parents and sources stay earlier.
+use Rattle.std.specs.Prelude.{Option, None, Some}
 use mathlib.Core.Path.{◌≡◌, refl, sym, ap, subst, ◌∙◌}
 use Prim.Native.Nat.{ℕ, ◌<◌, ◌≤◌}
 use native.Mathlib.Omega.{arith}
 use native.Mathlib.Nat.{not-suc-le-zero}
 use native.Mathlib.Decide.{ℕ_discrete}
-use Rattle.events.specs.declared.Link.{Link}
-use Rattle.events.specs.declared.Link.TheVariants.{Absent, To}
 use Rattle.laws.proofs.Closure.{tri}
 use Rattle.model.specs.Table.{Table, inert, Inside, thread, Parent, Source, IsInit}
 use Rattle.model.specs.Relations.{Po, AtOrAbove, equal, above}
@@ -44,12 +43,12 @@ module _ (t' t : Table) (f : ℕ → ℕ) (N : Renumbering t' t f) (W : WellForm
   parent_is : (n : ℕ) → (t.at (f n)).parent ≡ link_by f (t'.at n).parent
   parent_is n = ap (λ r. r.parent) (carried n)
 
-  first_no_parent : (t'.at 0).parent ≡ Absent
+  first_no_parent : (t'.at 0).parent ≡ None
   first_no_parent = go (t'.at 0).parent refl
     where
-      go : (l : Link) → (t'.at 0).parent ≡ l → (t'.at 0).parent ≡ Absent
-      go Absent e = e
-      go (To q) e = absurd (not-suc-le-zero (L.parent 0 q some e))
+      go : (l : Option ℕ) → (t'.at 0).parent ≡ l → (t'.at 0).parent ≡ None
+      go None e = e
+      go (Some q) e = absurd (not-suc-le-zero (L.parent 0 q some e))
 
   first_is_first : f 0 ≡ 0
   first_is_first = go (ℕ_discrete (f 0) 0)

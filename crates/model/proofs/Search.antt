@@ -1,8 +1,8 @@
 -- The search for the least number and the least pair that pass a test, by larger and larger bounds.
+use Rattle.std.specs.Prelude.{Option, None, Some}
 use mathlib.Core.Path.{◌≡◌, refl, sym, subst}
 use mathlib.Core.Logic.{◌⊎◌, inl, inr, ◌↔◌}
 use mathlib.Core.Bool.{Bool, true, false}
-use mathlib.Core.Option.{Option, none, some}
 use Prim.Native.Nat.{ℕ, zero, suc, ◌<◌, ◌≤◌}
 use native.Mathlib.Omega.{arith}
 use Rattle.laws.specs.Says.{Says}
@@ -14,8 +14,8 @@ use Rattle.model.proofs.MirrorRows.{Tells}
 
 module _ {A : Type 0} where
   abbrev or_else : Option A → Option A → Option A
-  or_else (some a) y = some a
-  or_else none y = y
+  or_else (Some a) y = Some a
+  or_else None y = y
 
   -- where all of one kind are at most all of another, the least of both is the least of the one, or else of the other
   least_or_else :
@@ -37,11 +37,11 @@ one_more {P} m n = (λ (h, p). tri {C = ((m < n) × P) ⊎ ((m ≡ n) × P)} m n
 -- ---- numbers
 
 abbrev only_if : Bool → ℕ → Option ℕ
-only_if true n = some n
-only_if false n = none
+only_if true n = Some n
+only_if false n = None
 
 abbrev pub first_below : ℕ → (ℕ → Bool) → Option ℕ
-first_below zero f = none
+first_below zero f = None
 first_below (suc n) f =
     let last = only_if (f n) n in
     or_else (first_below n f) last
@@ -64,12 +64,12 @@ first_least n inside s = least_iff (λ m (h, p). p) (λ m p. (inside m p, p)) (f
 -- ---- pairs
 
 abbrev paired_with : ℕ → Option ℕ → Option Pair
-paired_with a none = none
-paired_with a (some b) = some (record { first = a; second = b })
+paired_with a None = None
+paired_with a (Some b) = Some (record { first = a; second = b })
 
 -- the least pair whose first number is below k and whose second is below n
 abbrev pair_below : ℕ → ℕ → (ℕ → ℕ → Bool) → Option Pair
-pair_below n zero f = none
+pair_below n zero f = None
 pair_below n (suc k) f =
     let last = paired_with k (first_below n (f k)) in
     or_else (pair_below n k f) last

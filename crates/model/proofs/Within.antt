@@ -2,7 +2,6 @@
 use Prim.Native.Nat.{ℕ, ◌<◌}
 use native.Mathlib.Omega.{arith}
 use Rattle.laws.proofs.Steps.{Within, plus_within, plus_rises}
-use Rattle.findings.specs.declared.Finding.TheVariants.{R}
 use Rattle.model.specs.Table.{Table, Inside, Parent, Source}
 use Rattle.model.specs.Relations.{Po, AtOrAbove, equal, above, Sw, PoOrSw, by_po, by_sw, Hb, Race, Wb0, ScStep}
 use Rattle.model.specs.WellFormed.{WellFormed}

@@ -1,7 +1,7 @@
 -- E1 to E11 are true of the definitions: one statement over the list of them, by the computed mirror.
+use Rattle.std.specs.Prelude.{Option, None, Some}
 use mathlib.Core.Path.{◌≡◌, refl, ap, subst, ◌∙◌}
 use mathlib.Core.List.{List, [], ◌∷◌, map}
-use mathlib.Core.Option.{Option, none, some}
 use lib.Dec.{T}
 use lib.ListN.{get_or}
 use Rattle.findings.specs.declared.Finding.{Finding}
@@ -19,16 +19,16 @@ use Rattle.model.proofs.MirrorReport.{mirrored, mirrored_least}
 
 -- the witnesses of some findings, each brought to none or some before it is compared: else the comparison computes too much
 abbrev put : Option Witness → List (Option Witness) → List (Option Witness)
-put none l = none ∷ l
-put (some v) l = some v ∷ l
+put None l = None ∷ l
+put (Some v) l = Some v ∷ l
 
 abbrev pub witnesses : (Finding → Option Witness) → List Finding → List (Option Witness)
 witnesses w [] = []
 witnesses w (f ∷ fs) = put (w f) (witnesses w fs)
 
 put_is : (x : Option Witness) (l : List (Option Witness)) → put x l ≡ x ∷ l
-put_is none l = refl
-put_is (some v) l = refl
+put_is None l = refl
+put_is (Some v) l = refl
 
 witnesses_are : (w : Finding → Option Witness) (l : List Finding) → witnesses w l ≡ map w l
 witnesses_are w [] = refl
@@ -46,10 +46,10 @@ right e h found judged = record {
     ok : WellFormed (listed e.table)
     ok = (well_formed_says e.table).to h
 
-    each : (f : Finding) → get_or (mirrored (listed e.table)) (place_of f) none ≡ e.report.witness f
+    each : (f : Finding) → get_or (mirrored (listed e.table)) (place_of f) None ≡ e.report.witness f
     each f =
-        ap (λ (l : List (Option Witness)). get_or l (place_of f) none) (found ∙ witnesses_are e.report.witness all_in_order)
-        ∙ at_place e.report.witness none f
+        ap (λ (l : List (Option Witness)). get_or l (place_of f) None) (found ∙ witnesses_are e.report.witness all_in_order)
+        ∙ at_place e.report.witness None f
 
     least : (f : Finding) → LeastWitness (Shows (listed e.table) f) (e.report.witness f)
     least f = subst (LeastWitness (Shows (listed e.table) f)) (each f) (mirrored_least ok f)

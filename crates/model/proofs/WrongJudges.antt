@@ -1,16 +1,14 @@
 -- "Errors that look reasonable": each wrong judge or wrong definition, with the theorem that shuts it out.
+use Rattle.std.specs.Prelude.{Option, None, Some}
 use mathlib.Core.Path.{◌≡◌, refl, sym, ap, ◌∙◌}
 use mathlib.Core.Logic.{◌⊎◌, inl}
 use mathlib.Core.Bool.{not}
-use mathlib.Core.Option.{Option, none, some}
 use mathlib.Core.List.{[], ◌∷◌}
 use Prim.Native.Nat.{ℕ, zero, suc, ◌<◌, ◌≤◌}
 use native.Mathlib.Omega.{arith}
 use lib.Dec.{T, ltb}
 use Rattle.events.specs.declared.Order.TheVariants.{Na, Acq, Rel}
 use Rattle.events.specs.declared.Value.TheVariants.{Known}
-use Rattle.events.specs.declared.Link.{Link}
-use Rattle.events.specs.declared.Link.TheVariants.{Absent, To}
 use Rattle.events.specs.declared.Event.{Event}
 use Rattle.events.specs.declared.Event.TheVariants.{Init, Load, Store}
 use Rattle.events.specs.declared.Record.{Record}
@@ -41,8 +39,8 @@ use Rattle.model.proofs.Worked.{right, examples_right}
 
 -- what is asked of a judge: the report of each well-formed table, and no other table taken
 pub record Judges (j : Table → Option Report) : Type 0 where
-  pub reports : (t : Table) → WellFormed t → (x : Report) × ((j t ≡ some x) × Reports t x)
-  pub refuses : (t : Table) → ¬ WellFormed t → j t ≡ none
+  pub reports : (t : Table) → WellFormed t → (x : Report) × ((j t ≡ Some x) × Reports t x)
+  pub refuses : (t : Table) → ¬ WellFormed t → j t ≡ None
 
 E1_right : Right E1
 E1_right = examples_right.0
@@ -57,7 +55,7 @@ E9_right : Right E9
 E9_right = examples_right.1.1.1.1.1.1.1.1.0
 
 -- "A judge that refuses all"
-pub not_refusing_all : (j : Table → Option Report) → ((t : Table) → j t ≡ none) → ¬ Judges j
+pub not_refusing_all : (j : Table → Option Report) → ((t : Table) → j t ≡ None) → ¬ Judges j
 not_refusing_all j refuses ok =
     let (x, (e, y)) = ok.reports (listed E1.table) E1_right.well_formed in
     let f = refuses (listed E1.table) in
@@ -65,7 +63,7 @@ not_refusing_all j refuses ok =
     omega arith
 
 -- "or says consistent to all"
-pub not_consistent_to_all : (j : Table → Option Report) → ((t : Table) (x : Report) → j t ≡ some x → x.verdict ≡ Consistent) → ¬ Judges j
+pub not_consistent_to_all : (j : Table → Option Report) → ((t : Table) (x : Report) → j t ≡ Some x → x.verdict ≡ Consistent) → ¬ Judges j
 not_consistent_to_all j says ok =
     let t = listed E2.table in
     let (x, (e, y)) = ok.reports t E2_right.well_formed in
@@ -197,22 +195,22 @@ module _ {t : Table} (ok : WellFormed t) where
 
 -- 0 Init; 1 store REL X=0 p0; 2 Init thread 1 p1; 3 store REL X=1 p2; then two arms: 4 load ACQ X 0 p1 s1; 5 load ACQ X 1 p1 s3;
 -- a thread started on each: 6 Init thread 2 p4; 7 Init thread 3 p5; 8 store NA Y=1 p6; 9 store NA Y=2 p7: consistent.
-abbrev pub line : ℕ → Link → Link → Event → Record
+abbrev pub line : ℕ → Option ℕ → Option ℕ → Event → Record
 line thread parent source event = record { thread = thread; parent = parent; source = source; event = event }
 
 abbrev pub arms : Example
 arms = record {
   table =
-      line 0 Absent Absent Init
-      ∷ line 0 (To 0) Absent (Store Rel 0 (Known 0))
-      ∷ line 1 (To 1) Absent Init
-      ∷ line 1 (To 2) Absent (Store Rel 0 (Known 1))
-      ∷ line 0 (To 1) (To 1) (Load Acq 0 (Known 0))
-      ∷ line 0 (To 1) (To 3) (Load Acq 0 (Known 1))
-      ∷ line 2 (To 4) Absent Init
-      ∷ line 3 (To 5) Absent Init
-      ∷ line 2 (To 6) Absent (Store Na 1 (Known 1))
-      ∷ line 3 (To 7) Absent (Store Na 1 (Known 2))
+      line 0 None None Init
+      ∷ line 0 (Some 0) None (Store Rel 0 (Known 0))
+      ∷ line 1 (Some 1) None Init
+      ∷ line 1 (Some 2) None (Store Rel 0 (Known 1))
+      ∷ line 0 (Some 1) (Some 1) (Load Acq 0 (Known 0))
+      ∷ line 0 (Some 1) (Some 3) (Load Acq 0 (Known 1))
+      ∷ line 2 (Some 4) None Init
+      ∷ line 3 (Some 5) None Init
+      ∷ line 2 (Some 6) None (Store Na 1 (Known 1))
+      ∷ line 3 (Some 7) None (Store Na 1 (Known 2))
       ∷ [];
   report = allowed;
 }

@@ -1,4 +1,5 @@
 -- Wrong ideas of A5: updates in conflict counted, a load counted, no source taken for a source. One table shuts all three out.
+use Rattle.std.specs.Prelude.{None, Some}
 use mathlib.Core.Path.{◌≡◌, refl}
 use mathlib.Core.Bool.{not}
 use mathlib.Core.List.{[], ◌∷◌}
@@ -7,7 +8,6 @@ use native.Mathlib.Omega.{arith}
 use lib.Dec.{T, ltb}
 use Rattle.events.specs.declared.Order.TheVariants.{Acq, Rel, Ar}
 use Rattle.events.specs.declared.Value.TheVariants.{U, Known}
-use Rattle.events.specs.declared.Link.TheVariants.{Absent, To}
 use Rattle.events.specs.declared.Event.TheVariants.{Init, Load, Store, Update}
 use Rattle.laws.specs.Says.{any_below}
 use Rattle.laws.proofs.Says.{says_lt, says_not}
@@ -43,19 +43,19 @@ OneSource t p q = (s : ℕ) × (Source t s p × Source t s q)
 abbrev pub tokens : Example
 tokens = record {
   table =
-      line 0 Absent Absent Init
-      ∷ line 0 (To 0) Absent (Store Rel 0 (Known 0))
-      ∷ line 0 (To 1) Absent (Store Rel 1 (Known 0))
-      ∷ line 1 (To 2) Absent Init
-      ∷ line 1 (To 3) Absent (Store Rel 1 (Known 1))
-      ∷ line 0 (To 2) (To 2) (Load Acq 1 (Known 0))
-      ∷ line 0 (To 2) (To 4) (Load Acq 1 (Known 1))
-      ∷ line 0 (To 5) (To 1) (Update Ar 0 (Known 0) (Known 1))
-      ∷ line 0 (To 6) (To 1) (Update Ar 0 (Known 0) (Known 1))
-      ∷ line 1 (To 4) (To 1) (Load Acq 0 (Known 0))
-      ∷ line 1 (To 9) Absent (Update Ar 2 U (Known 1))
-      ∷ line 2 (To 2) Absent Init
-      ∷ line 2 (To 11) Absent (Update Ar 2 U (Known 1))
+      line 0 None None Init
+      ∷ line 0 (Some 0) None (Store Rel 0 (Known 0))
+      ∷ line 0 (Some 1) None (Store Rel 1 (Known 0))
+      ∷ line 1 (Some 2) None Init
+      ∷ line 1 (Some 3) None (Store Rel 1 (Known 1))
+      ∷ line 0 (Some 2) (Some 2) (Load Acq 1 (Known 0))
+      ∷ line 0 (Some 2) (Some 4) (Load Acq 1 (Known 1))
+      ∷ line 0 (Some 5) (Some 1) (Update Ar 0 (Known 0) (Known 1))
+      ∷ line 0 (Some 6) (Some 1) (Update Ar 0 (Known 0) (Known 1))
+      ∷ line 1 (Some 4) (Some 1) (Load Acq 0 (Known 0))
+      ∷ line 1 (Some 9) None (Update Ar 2 U (Known 1))
+      ∷ line 2 (Some 2) None Init
+      ∷ line 2 (Some 11) None (Update Ar 2 U (Known 1))
       ∷ [];
   report = allowed;
 }

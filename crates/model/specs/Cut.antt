@@ -1,7 +1,5 @@
 -- What it is to cut a table down, and what is claimed of a cut.
-use Rattle.std.specs.Prelude.{◌≡◌, ◌↔◌, Bool, true, false, ℕ, zero, suc, T}
-use Rattle.events.specs.declared.Link.{Link}
-use Rattle.events.specs.declared.Link.TheVariants.{Absent, To}
+use Rattle.std.specs.Prelude.{◌≡◌, ◌↔◌, Bool, true, false, ℕ, zero, suc, T, Option, None, Some}
 use Rattle.events.specs.declared.Record.{Record}
 use Rattle.findings.specs.declared.Finding.{Finding}
 use Rattle.model.specs.Table.{Table, Ends, Inside, Parent, Source}
@@ -9,9 +7,9 @@ use Rattle.model.specs.Relations.{Po, Hb, Conflict, Race, EarlierRace, StandsOnR
 use Rattle.model.specs.WellFormed.{WellFormed}
 use Rattle.model.specs.Findings.{Holds}
 
-abbrev pub link_by : (ℕ → ℕ) → Link → Link
-link_by f Absent = Absent
-link_by f (To n) = To (f n)
+abbrev pub link_by : (ℕ → ℕ) → Option ℕ → Option ℕ
+link_by f None = None
+link_by f (Some n) = Some (f n)
 
 -- a record with "parent and source as the new numbers of the same records" and all else as it was
 abbrev pub renumbered : (ℕ → ℕ) → Record → Record

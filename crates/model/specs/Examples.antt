@@ -1,9 +1,7 @@
 -- The small structures E1 to E10 of document 01 and the table of document 02's W2, and the report of each.
-use Rattle.std.specs.Prelude.{Bool, true, false, List, [], ◌∷◌, ℕ, eqb}
-use Rattle.std.proofs.Math.Option.{Option, none, some}
+use Rattle.std.specs.Prelude.{Bool, true, false, List, [], ◌∷◌, ℕ, eqb, None, Some, Option}
 use Rattle.events.specs.declared.Order.TheVariants.{Na, Acq, Rel, Ar, Sc}
 use Rattle.events.specs.declared.Value.TheVariants.{U, Known}
-use Rattle.events.specs.declared.Link.TheVariants.{Absent, To}
 use Rattle.events.specs.declared.Event.{Event}
 use Rattle.events.specs.declared.Event.TheVariants.{Init, Load, Store, Update}
 use Rattle.events.specs.declared.Record.{Record}
@@ -42,20 +40,20 @@ Z = 2
 
 -- record 0; then thread, parent, event, and for a read with a source its source ('"p" is the parent, "s" the source')
 abbrev root : Record
-root = record { thread = 0; parent = Absent; source = Absent; event = Init }
+root = record { thread = 0; parent = None; source = None; event = Init }
 
 abbrev p : ℕ → ℕ → Event → Record
-p parent thread event = record { thread = thread; parent = To parent; source = Absent; event = event }
+p parent thread event = record { thread = thread; parent = Some parent; source = None; event = event }
 
 abbrev ps : ℕ → ℕ → ℕ → Event → Record
-ps parent source thread event = record { thread = thread; parent = To parent; source = To source; event = event }
+ps parent source thread event = record { thread = thread; parent = Some parent; source = Some source; event = event }
 
 abbrev pair : ℕ → ℕ → Witness
 pair a b = a_pair (record { first = a; second = b })
 
 abbrev some_if : Bool → Witness → Option Witness
-some_if true w = some w
-some_if false w = none
+some_if true w = Some w
+some_if false w = None
 
 -- this finding with this witness, and no other
 abbrev only : Finding → Witness → Verdict → Report
@@ -63,7 +61,7 @@ only f w verdict = record { witness = λ g. some_if (eqb (place_of f) (place_of 
 
 -- no finding
 abbrev pub allowed : Report
-allowed = record { witness = λ g. none; verdict = Consistent }
+allowed = record { witness = λ g. None; verdict = Consistent }
 
 -- "Init alone: consistent."
 abbrev pub E1 : Example

@@ -1,6 +1,5 @@
 -- The seven findings (six of document 01, and A5 of document 02), their witnesses, and the verdict.
-use Rattle.std.proofs.Math.Option.{Option}
-use Rattle.std.specs.Prelude.{List, ℕ, ◌<◌}
+use Rattle.std.specs.Prelude.{List, ℕ, ◌<◌, Option}
 use Rattle.laws.specs.Steps.{IsCycle}
 use Rattle.laws.specs.Witness.{Witness, LeastWitness, RecordWith, PairWith, CycleWith}
 use Rattle.findings.specs.declared.Finding.{Finding}

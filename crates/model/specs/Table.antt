@@ -1,6 +1,5 @@
 -- A table of events, and words on the record of a number.
-use Rattle.std.specs.Prelude.{◌≡◌, List, ℕ, ◌<◌, ◌≤◌, T, length, get_or}
-use Rattle.events.specs.declared.Link.TheVariants.{Absent, To}
+use Rattle.std.specs.Prelude.{◌≡◌, List, ℕ, ◌<◌, ◌≤◌, T, length, get_or, None, Some}
 use Rattle.events.specs.declared.Event.TheVariants.{Init}
 use Rattle.events.specs.declared.Record.{Record}
 use Rattle.events.specs.Words.{is_init, is_read, is_write, is_update, is_na, is_sc, order_of, acquires, releases, at_one_location}
@@ -12,7 +11,7 @@ pub record Table : Type 0 where
 
 -- what stands at a number that no record has: an Init with no links, which is in no relation
 abbrev pub inert : Record
-inert = record { thread = 0; parent = Absent; source = Absent; event = Init }
+inert = record { thread = 0; parent = None; source = None; event = Init }
 
 -- nothing stands past the last record
 pub record Ends (t : Table) : Type 0 where
@@ -41,15 +40,15 @@ module _ (t : Table) where
 
   -- p is the parent of n
   abbrev pub Parent : ℕ → ℕ → Type 0
-  Parent p n = (t.at n).parent ≡ To p
+  Parent p n = (t.at n).parent ≡ Some p
 
   -- s is the source of the read n
   pub record Source (s n : ℕ) : Type 0 where
     pub reads : Read n
-    pub is : (t.at n).source ≡ To s
+    pub is : (t.at n).source ≡ Some s
 
   abbrev pub NoSource : ℕ → Type 0
-  NoSource n = (t.at n).source ≡ Absent
+  NoSource n = (t.at n).source ≡ None
 
   abbrev pub Write : ℕ → Type 0
   Write n = T (is_write (t.at n).event)

@@ -1,31 +1,29 @@
 -- A well-formed table: refusals 6, 7 and 8 of document 01, each as a proposition on the record of a number, are given nowhere.
-use Rattle.std.specs.Prelude.{◌≡◌, ℕ, ◌<◌, ◌≤◌}
-use Rattle.std.proofs.Math.Option.{some}
+use Rattle.std.specs.Prelude.{◌≡◌, ℕ, ◌<◌, ◌≤◌, None, Some}
 use Rattle.events.specs.declared.Value.{Value}
 use Rattle.events.specs.declared.Value.TheVariants.{U, Known}
-use Rattle.events.specs.declared.Link.TheVariants.{Absent}
 use Rattle.events.specs.Words.{read_of, written_of}
 use Rattle.model.specs.Table.{Table, Ends, Inside, thread, Parent, Source, NoSource, IsInit, Read, Write, OneLocation}
 
 module _ (t : Table) where
   abbrev pub ReadsValue : ℕ → Value → Type 0
-  ReadsValue n v = read_of (t.at n).event ≡ some v
+  ReadsValue n v = read_of (t.at n).event ≡ Some v
 
   abbrev pub WritesValue : ℕ → Value → Type 0
-  WritesValue n v = written_of (t.at n).event ≡ some v
+  WritesValue n v = written_of (t.at n).event ≡ Some v
 
   -- "an Init of thread 0 without parent"
   pub record Root (n : ℕ) : Type 0 where
     pub init : IsInit t n
     pub thread_0 : thread t n ≡ 0
-    pub no_parent : (t.at n).parent ≡ Absent
+    pub no_parent : (t.at n).parent ≡ None
 
   -- 6, each clause in its turn
   pub data Refused6 (n : ℕ) : Type 0 where
     -- "record 0 is not an Init of thread 0 without parent"
     no_root : n ≡ 0 → ¬ Root n → Refused6 n
     -- "another record has no parent"
-    no_parent : ¬ (n ≡ 0) → (t.at n).parent ≡ Absent → Refused6 n
+    no_parent : ¬ (n ≡ 0) → (t.at n).parent ≡ None → Refused6 n
     -- "or one not earlier"
     parent_not_earlier : {p : ℕ} → ¬ (n ≡ 0) → Parent t p n → n ≤ p → Refused6 n
     -- "a non-Init has another thread than its parent"

@@ -3,8 +3,8 @@ use mathlib.Core.Path.{◌≡◌, sym, ap, ap₂, ◌∙◌}
 use mathlib.Core.List.{List, [], ◌++◌}
 use Prim.Native.Nat.{ℕ, ◌<◌, ◌≤◌}
 use lib.ListN.{length}
+use Rattle.std.proofs.Common.{Ok}
 use Rattle.refusals.specs.Numbers.{at}
-use Rattle.batches.specs.declared.Ending.TheVariants.{Clean}
 use Rattle.batches.specs.Batch.{most, cleanly, refused, moved_on, end_of}
 use Rattle.batches.specs.Answers.{AnswersOf}
 use Rattle.batches.proofs.Answering.{answers_one, answers_joined}
@@ -23,7 +23,7 @@ pub record SumsOf (n : ℕ) (x y whole : Monday) : Type 0 where
   pub ending : end_of whole.ending ≡ moved_on n (end_of y.ending)
 
 pub monday_joined :
-    {a b : List ℕ} {x y whole : Monday} → length (a ++ b) ≤ most → x.ending ≡ Clean → MondayOf a x → MondayOf b y → MondayOf (a ++ b) whole
+    {a b : List ℕ} {x y whole : Monday} → length (a ++ b) ≤ most → x.ending ≡ Ok tt → MondayOf a x → MondayOf b y → MondayOf (a ++ b) whole
     → SumsOf (length a) x y whole
 monday_joined {a} {b} {x} {y} {whole} within clean p q r =
     let first : AnswersOf AnswerOf a p.answers cleanly = rw clean at p.of in

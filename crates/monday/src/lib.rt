@@ -6,16 +6,17 @@ ghost use Rattle.batches.specs.Batch.{end, end_of, standing};
 ghost use Rattle.batches.specs.Reading.{is_table};
 ghost use Rattle.monday.specs.Monday.{MondayOf};
 
-use batches::{Ending, Item, is_table};
+use batches::{Item, is_table};
 use counting::with_table;
 use reader::Reader;
+use refusals::Refusal;
 use tally::Figures;
 
 // The figures over the tables of a batch, and how it ended. A batch refused with 1 has no figures: they are those of no table then.
 #[derive(Drop)]
 pub struct Monday {
     pub figures: Figures,
-    pub ending: Ending,
+    pub ending: Result<(), Refusal>,
 }
 
 // No table stands where the batch has ended.
@@ -27,7 +28,7 @@ fn closed(figures: Figures, item: Item) -> Monday
         Item::Ended(ending) => Monday { figures, ending },
         Item::Table(_, _) => Monday {
             figures,
-            ending: Ending::Clean,
+            ending: Ok(()),
         },
     }
 }

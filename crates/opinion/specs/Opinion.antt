@@ -1,6 +1,6 @@
 -- The text of the third opinion, and what writing it into a lent buffer gives.
-use Rattle.std.specs.Prelude.{List, [], ◌∷◌, ℕ, ◌<◌, ◌≤◌, length}
-use Rattle.phrases.specs.declared.Wrote.{Wrote}
+use Rattle.std.specs.Prelude.{List, [], ◌∷◌, ℕ, Result, ◌<◌, ◌≤◌, length}
+use Rattle.refusals.specs.declared.Refusal.{Refusal}
 use Rattle.phrases.specs.Handed.{Front, Writes}
 use Rattle.lines.specs.Answer.{TextOf}
 
@@ -20,5 +20,5 @@ pub data OpinionOf (b : List ℕ) : List ℕ → Type 0 where
 abbrev pub OpinionAt : List ℕ → List ℕ → ℕ → Type 0
 OpinionAt b = Front (OpinionOf b)
 
-abbrev pub WriteOpinion : List ℕ → List ℕ → List ℕ → Wrote → Type 0
+abbrev pub WriteOpinion : List ℕ → List ℕ → List ℕ → Result ℕ Refusal → Type 0
 WriteOpinion b = Writes (OpinionOf b)

@@ -8,8 +8,9 @@ ghost use Rattle.opinion.specs.Opinion.{OpinionAt, WriteOpinion};
 
 use limits::LIMIT;
 use lines::{TEXT, put_judged};
-use phrases::{Wrote, hand_over};
+use phrases::hand_over;
 use record::places::SIZE;
+use refusals::Refusal;
 use text::put;
 
 // "384 bytes (24 records)": a longer input is not judged.
@@ -38,7 +39,7 @@ fn put_opinion(input: &[u8], out: &mut [u8]) -> usize
 }
 
 // Writes the third opinion on an input: `too large`, before any test, or the lines that the judge's answer has.
-pub fn write_opinion(input: &[u8], out: &mut [u8]) -> Wrote
+pub fn write_opinion(input: &[u8], out: &mut [u8]) -> Result<usize, Refusal>
     ensures { WriteOpinion input.now out.old out.new result }
 {
     let mut text = [0u8; TEXT];

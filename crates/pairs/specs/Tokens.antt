@@ -36,7 +36,7 @@ pub record TakenWith (kind source : List ℕ) (T A : Rel) (p q : ℕ) : Type 0 w
   pub apart : ¬ A p q
 
 -- columns, and room for those that took from each
-pub record TakerRoom (w n : ℕ) (kind source takers : List ℕ) : Type 0 where
+pub record TakerRoom (w n : ℕ) (kind source : List ℕ) (takers : List (List ℕ)) : Type 0 where
   pub kinds : n ≤ length kind
   pub sources : n ≤ length source
   pub for_takers : Room w n n takers

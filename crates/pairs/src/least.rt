@@ -2,42 +2,39 @@
 ghost use Rattle.std.specs.Prelude.{ℕ, ◌<◌};
 ghost use Rattle.laws.specs.Witness.{PairWith};
 ghost use Rattle.findings.specs.Meant.{Finds};
-ghost use Rattle.rows.specs.Rows.{Cell, Holds, Room};
+ghost use Rattle.rows.specs.Sets.{Is};
+ghost use Rattle.rows.specs.Rows.{Cell, Room};
 
 use findings::Found;
-use rows::row::{has, put};
-use rows::set::is_empty;
+use rows::row::has;
+use rows::set::Set;
 use rows::whole::joined;
 
-// The least pair (p, q) such that row q has p. Row 0 of `firsts` has what any row has: other numbers are passed over.
-fn least_among(m: &[u64], firsts: &[u64], w: usize, n: usize) -> Found
-    requires { Room w n n m.now × Room w n 1 firsts.now × Holds w 1 (λ p l. (q : ℕ) × Cell w n m.now p q) firsts.now }
-    ensures { Finds (PairWith (λ p q. (p < n) × Cell w n m.now p q)) result }
+// The least pair (p, q) such that row q has p. `firsts` has what any row has: other numbers are passed over.
+fn least_among<const W: usize>(m: &[[u64; W]], firsts: &Set<W>, n: usize) -> Found
+    requires { Room W n n m.now × Is firsts.now (λ p. (q : ℕ) × Cell W n m.now p q) }
+    ensures { Finds (PairWith (λ p q. (p < n) × Cell W n m.now p q)) result }
 {
-    let mut found = Found::Nothing;
-    'search: for p in 0..n {
-        if has(firsts, w, p, 0) {
+    for p in 0..n {
+        if firsts.has(p) {
             for q in 0..n {
-                if has(m, w, p, q) {
-                    found = Found::Pair(p, q);
-                    break 'search;
+                if has(m, p, q) {
+                    return Found::Pair(p, q);
                 }
             }
         }
     }
-    found
+    Found::Nothing
 }
 
-// The same, with room of its own.
-pub fn least_pair(m: &[u64], w: usize, n: usize) -> Found
-    requires { Room w n n m.now }
-    ensures { Finds (PairWith (λ p q. (p < n) × Cell w n m.now p q)) result }
+// The same, where it is not known what any row has.
+pub fn least_pair<const W: usize>(m: &[[u64; W]], n: usize) -> Found
+    requires { Room W n n m.now }
+    ensures { Finds (PairWith (λ p q. (p < n) × Cell W n m.now p q)) result }
 {
-    let all = joined(m, w, n);
-    if is_empty(all) {
+    let firsts = &joined(m, n);
+    if firsts.is_empty() {
         return Found::Nothing;
     }
-    let mut firsts = [0u64; 4];
-    put(&mut firsts, w, 0, all);
-    least_among(m, &firsts, w, n)
+    least_among(m, firsts, n)
 }

@@ -6,13 +6,13 @@ use native.Mathlib.Nat.{zero-add}
 use native.Mathlib.Omega.{arith}
 use lib.ListN.{length, take, drop}
 use lib.Seq.{take_at, length-take-le}
+use Rattle.std.proofs.Common.{Result, Ok, Err}
+use Rattle.refusals.specs.declared.Refusal.{Refusal}
 use Rattle.refusals.specs.declared.Refusal.TheVariants as refusal
 use Rattle.refusals.proofs.Known.{same_refusal}
 use Rattle.text.specs.Text.{Written}
 use Rattle.text.proofs.Laws.{written_length}
 use Rattle.phrases.specs.Room.{Room}
-use Rattle.phrases.specs.declared.Wrote.{Wrote}
-use Rattle.phrases.specs.declared.Wrote.TheVariants.{Refused, Length}
 use Rattle.phrases.specs.Handed.{IsText, the_text, Front, Writes}
 
 -- ---- what was written from 0 on stands at the front
@@ -32,33 +32,33 @@ module _ (Such : List ℕ → Type 0) where
   front_long {out} {len} at = length-take-le len out at.within
 
   -- which text it is, said of the text itself
-  pub writes_such : {text before after : List ℕ} {x : Wrote} → Such text → Writes (IsText text) before after x → Writes Such before after x
+  pub writes_such : {text before after : List ℕ} {x : Result ℕ Refusal} → Such text → Writes (IsText text) before after x → Writes Such before after x
   writes_such is (Writes.no_room the_text h r e) = Writes.no_room is h r e
   writes_such is (Writes.written the_text len h e) = Writes.written is len h e
 
 -- ---- it is handed over, if it has room
 
 module _ (text before : List ℕ) where
-  pub too_short : length before < length text → Writes (IsText text) before before (Refused refusal.Room)
+  pub too_short : length before < length text → Writes (IsText text) before before (Err refusal.Room)
   too_short h = Writes.no_room the_text h refl refl
 
-  pub handed : length text ≤ length before → {after : List ℕ} {r : ℕ} → Written before 0 text after r → Writes (IsText text) before after (Length (length text))
+  pub handed : length text ≤ length before → {after : List ℕ} {r : ℕ} → Written before 0 text after r → Writes (IsText text) before after (Ok (length text))
   handed h w = Writes.written the_text refl h (w.holds ∙ ap (λ (n : ℕ). text ++ drop n before) (zero-add (length text)))
 
 -- ---- one result, where there is one such text
 
 -- the same answer, and the same bytes
-pub record OneResult (x y : Wrote) (after after' : List ℕ) : Type 0 where
+pub record OneResult (x y : Result ℕ Refusal) (after after' : List ℕ) : Type 0 where
   pub result : x ≡ y
   pub bytes : after ≡ after'
 
 module _ (Such : List ℕ → Type 0) (one : (s u : List ℕ) → Such s → Such u → s ≡ u) where
-  pub writes_one : {before after after' : List ℕ} {x y : Wrote} → Writes Such before after x → Writes Such before after' y → OneResult x y after after'
+  pub writes_one : {before after after' : List ℕ} {x y : Result ℕ Refusal} → Writes Such before after x → Writes Such before after' y → OneResult x y after after'
   writes_one (Writes.no_room _ _ k e) (Writes.no_room _ _ l e') =
-      record { result = ap Refused (same_refusal k l); bytes = e ∙ sym e' }
+      record { result = ap Err (same_refusal k l); bytes = e ∙ sym e' }
   writes_one (Writes.no_room t h _ _) (Writes.written u e l _) = absurd (omega (arith, ap length (one _ _ t u)))
   writes_one (Writes.written t e l _) (Writes.no_room u h _ _) = absurd (omega (arith, ap length (one _ _ t u)))
   writes_one {before} (Writes.written {len = m} t e _ a) (Writes.written {len = n} v f _ c) =
       let w = one _ _ t v in
       let same : m ≡ n = e ∙ ap length w ∙ sym f in
-      record { result = ap Length same; bytes = a ∙ ap₂ (λ (l : List ℕ) (k : ℕ). l ++ drop k before) w same ∙ sym c }
+      record { result = ap Ok same; bytes = a ∙ ap₂ (λ (l : List ℕ) (k : ℕ). l ++ drop k before) w same ∙ sym c }

@@ -1,4 +1,5 @@
 -- How long the lines can be: numbers below a thousand have at most three digits, the places of a batch five.
+use Rattle.std.specs.Prelude.{Option, None}
 use mathlib.Core.Path.{◌≡◌, ap}
 use mathlib.Core.List.{List, [], ◌∷◌, ◌++◌}
 use Prim.Native.Nat.{ℕ, suc, ◌+◌, ◌*◌, ◌/◌, ◌<◌, ◌≤◌}
@@ -7,8 +8,6 @@ use native.Mathlib.Decide.{dec_lt}
 use lib.ListN.{length, length-append}
 use Rattle.refusals.specs.declared.Fault.{Fault}
 use Rattle.refusals.specs.declared.Fault.TheVariants.{Mark, Kind, Order, Rest, Thread, Location, Parent, Source, Twin}
-use Rattle.refusals.specs.declared.Byte.{Byte}
-use Rattle.refusals.specs.declared.Byte.TheVariants.{Unnamed}
 use Rattle.refusals.specs.declared.Told.{Told}
 use Rattle.refusals.specs.Numbers.{fault_number, fault_byte, of_record}
 use Rattle.text.specs.Text.{decimal, spaced}
@@ -55,8 +54,8 @@ refused_length told h k =
     )
 
 -- where no byte is named
-pub refused_short : (told : Told) → told.number < 1000 → told.place < 100000 → told.byte ≡ Unnamed → length (refused_text told) ≤ 21
-refused_short told h k none_named = omega (arith, refused_length told h k, ap (λ (x : Byte). length (byte_text x)) none_named)
+pub refused_short : (told : Told) → told.number < 1000 → told.place < 100000 → told.byte ≡ None → length (refused_text told) ≤ 21
+refused_short told h k none_named = omega (arith, refused_length told h k, ap (λ (x : Option ℕ). length (byte_text x)) none_named)
 
 -- and where one is
 pub record_short : (f : Fault) (n : ℕ) → n < 1000 → fault_byte f < 1000 → length (refused_text (of_record f n)) ≤ 30

@@ -1,7 +1,5 @@
 -- A line of a name and what stands after it, and the line of a refusal: every byte that documents 01 and 02 show.
-use Rattle.std.specs.Prelude.{List, [], ◌∷◌, ◌++◌, ℕ}
-use Rattle.refusals.specs.declared.Byte.{Byte}
-use Rattle.refusals.specs.declared.Byte.TheVariants.{Unnamed, Named}
+use Rattle.std.specs.Prelude.{List, [], ◌∷◌, ◌++◌, ℕ, Option, None, Some}
 use Rattle.refusals.specs.declared.Told.{Told}
 use Rattle.text.specs.Text.{spaced}
 
@@ -24,9 +22,9 @@ abbrev pub line : List ℕ → List ℕ → List ℕ
 line name rest = name ++ (rest ++ (10 ∷ []))
 
 -- a record's byte, where one is named
-abbrev pub byte_text : Byte → List ℕ
-byte_text Unnamed = []
-byte_text (Named i) = byte_word ++ spaced i
+abbrev pub byte_text : Option ℕ → List ℕ
+byte_text None = []
+byte_text (Some i) = byte_word ++ spaced i
 
 -- the place, and the byte there
 abbrev pub where_text : Told → List ℕ

@@ -6,15 +6,8 @@ ghost use Rattle.phrases.specs.Phrases.{line, byte_text, where_text, place_text,
 ghost use Rattle.phrases.specs.Room.{Room};
 ghost use Rattle.phrases.specs.Handed.{IsText, Writes};
 
-use refusals::{Byte, Refusal, Told};
+use refusals::{Refusal, Told};
 use text::{put, put_spaced};
-
-// What writing an answer gives: how many bytes were written, or the refusal.
-#[derive(Drop)]
-pub enum Wrote {
-    Refused(Refusal),
-    Length(usize),
-}
 
 // A line of a name and a number.
 pub fn number_line(out: &mut [u8], at: usize, name: &[u8], number: usize) -> usize
@@ -27,13 +20,13 @@ pub fn number_line(out: &mut [u8], at: usize, name: &[u8], number: usize) -> usi
 }
 
 // A record's byte, where one is named.
-fn put_named(out: &mut [u8], at: usize, byte: Byte) -> usize
+fn put_named(out: &mut [u8], at: usize, byte: Option<usize>) -> usize
     requires { Room out.old at (byte_text byte) }
     ensures { Written out.old at (byte_text byte) out.new result }
 {
     match byte {
-        Byte::Unnamed => at,
-        Byte::Named(i) => {
+        None => at,
+        Some(i) => {
             let word = put(out, at, b" byte");
             put_spaced(out, word, i)
         }
@@ -70,14 +63,14 @@ pub fn put_refused(out: &mut [u8], at: usize, told: Told) -> usize
     put(out, rest, b"\n")
 }
 
-// A text that was made aside, where it has room.
-pub fn hand_over(text: &[u8], out: &mut [u8]) -> Wrote
+// A text that was made aside, where it has room: how many bytes were written, or the refusal.
+pub fn hand_over(text: &[u8], out: &mut [u8]) -> Result<usize, Refusal>
     ensures { Writes (IsText text.now) out.old out.new result }
 {
     let len = text.len();
     if out.len() < len {
-        return Wrote::Refused(Refusal::Room);
+        return Err(Refusal::Room);
     }
     put(out, 0, text);
-    Wrote::Length(len)
+    Ok(len)
 }

@@ -1,3 +1,2 @@
--- What the plain engine's questions tell.
-pub mod Reads
+-- What the plain engine's search over pairs tells.
 pub mod Pairs

@@ -6,16 +6,9 @@ use crate::records::{init, load, load_u, root, store};
 use events::{Order, Record};
 use limits::LIMIT;
 
-#[derive(Clone, Copy)]
-pub enum Large {
-    Chain,
-    Seven,
-    Circle,
-}
-
 // 0 Init; 1 store NA X=1; from 2 on stores NA to Y, but the last that a table can have, 199, a load NA X u without a source; each the parent
 // of the next. Only by 198 steps of po is write 1 hb before read 199. So R at 199: a write of its location is before it, and no write races with it.
-fn chain_record(n: u8) -> Record {
+pub fn chain(n: u8) -> Record {
     if n == 0 {
         return root();
     }
@@ -32,7 +25,7 @@ fn chain_record(n: u8) -> Record {
 // thread 8 + k loads ACQ X from write 15 + k, then from 15 + (k + 3) % 7.
 // A reader of 15 + k is hb before one of 15 + (k + 3) % 7, and no write nor reader is hb before anything else but its own readers.
 // So wb0 is one ring: 15 18 21 17 20 16 19. Nothing is NA, so nothing races; each thread is a chain, so nothing conflicts.
-fn seven_record(n: u8) -> Record {
+pub fn seven(n: u8) -> Record {
     if n == 0 {
         return root();
     }
@@ -54,7 +47,7 @@ fn seven_record(n: u8) -> Record {
 // a store SC of 1 to location k, a load SC of 0 from location (k + 5) % 12, whose source is among the first stores.
 // po≠ leads from each store to the load after it, fr from the load to the store of its location, and no other step is among SC
 // records: E3 with twelve threads in place of two. So A4 is one ring of 24; the stores are 14, 17, .., 47, each load one more.
-fn circle_record(n: u8) -> Record {
+pub fn circle(n: u8) -> Record {
     if n == 0 {
         return root();
     }
@@ -73,19 +66,12 @@ fn circle_record(n: u8) -> Record {
     load(Order::Sc, k + 1, n - 1, j + 1, j, 0)
 }
 
-fn record_of(large: Large, n: u8) -> Record {
-    match large {
-        Large::Chain => chain_record(n),
-        Large::Seven => seven_record(n),
-        Large::Circle => circle_record(n),
-    }
-}
-
 // Writes the first `count` records of a large table.
-pub fn write(large: Large, count: u8, out: &mut [u8])
-    requires { record_size * count ≤ length out.old }
+pub fn write<F: Fn(u8) -> Record>(numbered: F, count: u8, out: &mut [u8])
+    requires callable { F.IsAlwaysCallable numbered }
+    requires room { record_size * count ≤ length out.old }
 {
     for n in 0..count {
-        slots::write_at(out, n as usize, record_of(large, n));
+        slots::write_at(out, n as usize, numbered(n));
     }
 }

@@ -1,5 +1,5 @@
 // Words, numbers, refusals and bytes on standard output.
-use refusals::{Byte, Refusal};
+use refusals::Refusal;
 use std::io;
 
 // How a byte is said: as two hexadecimal digits, or as a number.
@@ -19,10 +19,10 @@ pub fn number(rt: &impl Print, words: &[u8], n: usize) -> io::Result<()> {
     print!(rt; "{n}")
 }
 
-fn named(rt: &impl Print, byte: Byte) -> io::Result<()> {
+fn named(rt: &impl Print, byte: Option<usize>) -> io::Result<()> {
     match byte {
-        Byte::Unnamed => Ok(()),
-        Byte::Named(i) => number(rt, b" byte ", i),
+        None => Ok(()),
+        Some(i) => number(rt, b" byte ", i),
     }
 }
 

@@ -1,13 +1,10 @@
 // The questions about one table: each is read whole and answered; each part of an answer ends its line, and an empty line ends each answer.
-ghost use Rattle.std.specs.Prelude.{◌≤◌, length};
-
 use crate::input::{filled, next_word};
-use edit::appending::{Appended, append};
-use edit::cutting::{CutDown, cut};
+use edit::appending::append;
+use edit::cutting::cut;
 use events::Record;
-use fetch::{FetchTest, fetch, refusal_of_fetch};
+use fetch::{fetch, refusal_of_fetch};
 use lines::{TEXT, write_answer};
-use phrases::Wrote;
 use programs::say;
 use programs::say::Form;
 use record::places::SIZE;
@@ -41,18 +38,11 @@ fn say_counted(rt: &impl Print, words: &[u8], n: usize) -> io::Result<()> {
     end_line(rt)
 }
 
-// The first bytes.
-fn say_front(rt: &impl Print, text: &[u8], len: usize) -> io::Result<()>
-    requires { len ≤ length text.now }
-{
-    say::text(rt, &text[0..len])
-}
-
 fn say_report(rt: &impl Print, table: &[u8]) -> io::Result<()> {
     let mut out = [0u8; TEXT];
     match write_answer(table, &mut out) {
-        Wrote::Length(len) => say_front(rt, &out, len),
-        Wrote::Refused(r) => say_refused(rt, r),
+        Ok(len) => say::text(rt, &out[..len]),
+        Err(r) => say_refused(rt, r),
     }
 }
 
@@ -74,8 +64,8 @@ pub fn take_judging(rt: &impl Print, input: &mut impl Read) -> io::Result<bool> 
 
 fn say_cut(rt: &impl Print, table: &[u8], selection: &[u8], out: &mut [u8]) -> io::Result<()> {
     match cut(table, selection, out) {
-        CutDown::Kept(k) => say_counted(rt, b"cut ", k),
-        CutDown::Refused(r) => say_refused(rt, r),
+        Ok(k) => say_counted(rt, b"cut ", k),
+        Err(r) => say_refused(rt, r),
     }
 }
 
@@ -126,8 +116,8 @@ pub fn take_cut(rt: &impl Print, input: &mut impl Read) -> io::Result<bool> {
 
 fn say_append(rt: &impl Print, buffer: &mut [u8], used: usize, new: Record) -> io::Result<()> {
     match append(buffer, used, new) {
-        Appended::Count(k) => say_counted(rt, b"count ", k),
-        Appended::Refused(r) => say_refused(rt, r),
+        Ok(k) => say_counted(rt, b"count ", k),
+        Err(r) => say_refused(rt, r),
     }
 }
 
@@ -161,8 +151,8 @@ pub fn take_append(rt: &impl Print, input: &mut impl Read) -> io::Result<bool> {
 
 fn say_fetch_test(rt: &impl Print, table: &[u8], asked: usize) -> io::Result<()> {
     match refusal_of_fetch(table, asked) {
-        FetchTest::Given => say::text(rt, b"given\n"),
-        FetchTest::Refused(r) => say_refused(rt, r),
+        Ok(()) => say::text(rt, b"given\n"),
+        Err(r) => say_refused(rt, r),
     }
 }
 

@@ -16,7 +16,7 @@ pub fn filled(input: &mut impl Read, bytes: &mut [u8]) -> io::Result<bool> {
 pub fn next_word(input: &mut impl Read) -> io::Result<usize> {
     let mut two = [0u8; 2];
     if filled(input, &mut two)? {
-        return Ok(word_of(two[0], two[1]) as usize);
+        return Ok(usize::from(word_of(two[0], two[1])));
     }
     Ok(65536)
 }

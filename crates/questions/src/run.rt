@@ -1,10 +1,9 @@
 // The questions about a batch: all its answers in one call, and its figures.
 use crate::ask::{FILL, end_line, say_hex, say_refused};
 use crate::input::{filled, next_word};
-use answers::{Answers, Run, write_answers};
-use batches::Ending;
-use phrases::Wrote;
+use answers::{Answers, write_answers};
 use programs::say;
+use refusals::Refusal;
 use sheet::write_figures;
 use std::io;
 use std::io::Read;
@@ -19,37 +18,36 @@ pub enum Asked {
     Figures,
 }
 
-fn say_ending(rt: &impl Print, ending: Ending) -> io::Result<()> {
+fn say_ending(rt: &impl Print, ending: Result<(), Refusal>) -> io::Result<()> {
     match ending {
-        Ending::Clean => say::text(rt, b"cleanly"),
-        Ending::Refused(r) => say::refusal(rt, r),
+        Ok(()) => say::text(rt, b"cleanly"),
+        Err(r) => say::refusal(rt, r),
     }
 }
 
 fn say_answers(rt: &impl Print, answers: Answers) -> io::Result<()> {
-    let ending = answers.ending;
     say::number(rt, b"answered ", answers.tables)?;
     say::number(rt, b" tables ", answers.bytes)?;
     say::text(rt, b" bytes, ended ")?;
-    say_ending(rt, ending)?;
+    say_ending(rt, answers.ending)?;
     end_line(rt)
 }
 
 fn say_run(rt: &impl Print, batch: &[u8], out: &mut [u8]) -> io::Result<()> {
     match write_answers(batch, out) {
-        Run::Done(answers) => say_answers(rt, answers),
-        Run::Refused(r) => say_refused(rt, r),
+        Ok(answers) => say_answers(rt, answers),
+        Err(r) => say_refused(rt, r),
     }
 }
 
 fn say_figures(rt: &impl Print, batch: &[u8], out: &mut [u8]) -> io::Result<()> {
     match write_figures(batch, out) {
-        Wrote::Length(len) => {
+        Ok(len) => {
             say::number(rt, b"wrote ", len)?;
             say::text(rt, b" bytes")?;
             end_line(rt)
         }
-        Wrote::Refused(r) => say_refused(rt, r),
+        Err(r) => say_refused(rt, r),
     }
 }
 

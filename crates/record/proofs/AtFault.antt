@@ -1,7 +1,7 @@
 -- The bytes at fault where test 4 fails, and the least of them.
+use Rattle.std.specs.Prelude.{Some}
 use mathlib.Core.Path.{◌≡◌}
 use mathlib.Core.Bool.{false}
-use mathlib.Core.Option.{some}
 use mathlib.Core.List.{List}
 use Prim.Native.Nat.{ℕ, ◌<◌, ◌≤◌}
 use native.Mathlib.Omega.{arith}
@@ -49,7 +49,7 @@ module _ (b : List ℕ) where
   restless (byte_15 n) = record { from = omega arith; to = omega arith; fails = λ t. n ((zero_at b 15).to t) }
 
   -- the search finds the least
-  pub least_at_fault : rested b ≡ false → LeastNumber (AtFault b) (some (least_restless b))
+  pub least_at_fault : rested b ≡ false → LeastNumber (AtFault b) (Some (least_restless b))
   least_at_fault e =
       let i = least_restless b in
       let first = least_first b in

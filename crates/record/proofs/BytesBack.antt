@@ -1,4 +1,5 @@
 -- Bytes that are read, written back, are the same bytes.
+use Rattle.std.specs.Prelude.{None, Some}
 use mathlib.Core.Path.{◌≡◌, refl, sym, subst, ap, ◌∙◌}
 use mathlib.Core.Bool.{Bool, true, false}
 use mathlib.Core.List.{List, [], ◌∷◌}
@@ -11,7 +12,6 @@ use Rattle.events.specs.declared.Order.{Order}
 use Rattle.events.specs.declared.Order.TheVariants.{Na}
 use Rattle.events.specs.declared.Value.{Value}
 use Rattle.events.specs.declared.Value.TheVariants.{U, Known}
-use Rattle.events.specs.declared.Link.TheVariants.{Absent, To}
 use Rattle.events.specs.Words.{code_of}
 use Rattle.laws.specs.Says.{Says}
 use Rattle.record.specs.declared.written.Columns.{Columns}
@@ -85,7 +85,7 @@ pub link_byte_back : (n : ℕ) → link_byte (link_from n) ≡ n
 unfolding link_from
 link_byte_back n = go (eqb n 255) refl
   where
-    go : (b : Bool) → eqb n 255 ≡ b → link_byte (pick b Absent (To n)) ≡ n
+    go : (b : Bool) → eqb n 255 ≡ b → link_byte (pick b None (Some n)) ≡ n
     go true e = sym (eqb→eq n 255 (subst T (sym e) tt))
     go false e = refl
 

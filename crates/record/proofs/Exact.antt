@@ -1,7 +1,8 @@
 -- Sixteen bytes are read as a record, or refused with 2 to 5 and the byte at fault, exactly as the documents say.
+use Rattle.events.specs.declared.Record.{Record}
+use Rattle.std.specs.Prelude.{Some, Err, Result}
 use mathlib.Core.Path.{◌≡◌, refl, sym, ap, ◌∙◌}
 use mathlib.Core.Bool.{Bool, true, false}
-use mathlib.Core.Option.{some}
 use mathlib.Core.List.{List}
 use Prim.Native.Nat.{ℕ, ◌<◌, ◌≤◌}
 use native.Mathlib.Omega.{arith}
@@ -13,8 +14,6 @@ use Rattle.laws.proofs.Says.{says_yes, says_no, says_T, says_le, says_one}
 use Rattle.refusals.specs.declared.Fault.{Fault}
 use Rattle.refusals.specs.declared.Fault.TheVariants as fault
 use Rattle.refusals.specs.Numbers.{fault_byte}
-use Rattle.record.specs.declared.Decoded.{Decoded}
-use Rattle.record.specs.declared.Decoded.TheVariants.{Bad}
 use Rattle.record.specs.Form.{kind_byte, order_byte, thread_byte, location_byte, marked, in_row, rested, least_restless, record_from, decided_by, decode}
 use Rattle.record.specs.Refused.{Marked, InRow, Rested, AtFault, ReadAs, good, bad_2, bad_3_kind, bad_3_order, bad_4, bad_5_thread, bad_5_location}
 use Rattle.record.proofs.AtFault.{restless, least_at_fault}
@@ -56,7 +55,7 @@ module _ (b : List ℕ) where
 
   decided :
       (m k w s t l : Bool) → Says m (Marked b) → Says k Kind → Says w (InRow b) → Says s (Rested b) → Says t Thread → Says l Location
-      → (s ≡ false → LeastNumber (AtFault b) (some (least_restless b))) → ReadAs b (decided_by m k w s t l (least_restless b) (record_from b))
+      → (s ≡ false → LeastNumber (AtFault b) (Some (least_restless b))) → ReadAs b (decided_by m k w s t l (least_restless b) (record_from b))
   unfolding decided_by
   decided false k w s t l M K W S H L F = bad_2 (λ m. M.from m)
   decided true false w s t l M K W S H L F = bad_3_kind (M.to tt) (λ w. K.from (row_kind w)) (λ k. K.from k)
@@ -82,12 +81,12 @@ module _ (b : List ℕ) where
 
   -- ---- one answer, and one byte
 
-  one_least : {i : ℕ} → ¬ Rested b → LeastNumber (AtFault b) (some i) → least_restless b ≡ i
+  one_least : {i : ℕ} → ¬ Rested b → LeastNumber (AtFault b) (Some i) → least_restless b ≡ i
   one_least n first =
       let same = least_one number_one (least_at_fault b (is_false (says_rested b) n)) first in
       cc
 
-  pub read_is : {d : Decoded} → ReadAs b d → decode b ≡ d
+  pub read_is : {d : Result Record Fault} → ReadAs b d → decode b ≡ d
   unfolding decided_by
   read_is (good m w s g) =
       decided_so (is_true (says_marked b) m) (is_true says_kind (row_kind w)) (is_true says_row w) (is_true (says_rested b) s) (is_true says_thread g.thread) (is_true says_location g.location)
@@ -96,18 +95,18 @@ module _ (b : List ℕ) where
   read_is (bad_3_order m w k) = decided_so (is_true (says_marked b) m) (is_true says_kind k) (is_false says_row w) refl refl refl
   read_is (bad_4 m w s first) =
       decided_so (is_true (says_marked b) m) (is_true says_kind (row_kind w)) (is_true says_row w) (is_false (says_rested b) s) refl refl
-      ∙ ap (λ (i : ℕ). Bad (fault.Rest i)) (one_least s first)
+      ∙ ap (λ (i : ℕ). Err (fault.Rest i)) (one_least s first)
   read_is (bad_5_thread m w s g t) =
       decided_so (is_true (says_marked b) m) (is_true says_kind (row_kind w)) (is_true says_row w) (is_true (says_rested b) s) (is_false says_thread t) refl
   read_is (bad_5_location m w s g t) =
       decided_so (is_true (says_marked b) m) (is_true says_kind (row_kind w)) (is_true says_row w) (is_true (says_rested b) s) (is_true says_thread t)
       (is_false says_location (λ l. g (record { thread = t; location = l })))
 
-  pub read_one : {x y : Decoded} → ReadAs b x → ReadAs b y → x ≡ y
+  pub read_one : {x y : Result Record Fault} → ReadAs b x → ReadAs b y → x ≡ y
   read_one p q = sym (read_is p) ∙ read_is q
 
   -- the byte that is named is one of the sixteen
-  pub named_inside : {f : Fault} → ReadAs b (Bad f) → fault_byte f < 16
+  pub named_inside : {f : Fault} → ReadAs b (Err f) → fault_byte f < 16
   named_inside (bad_2 _) = omega arith
   named_inside (bad_3_kind _ _ _) = omega arith
   named_inside (bad_3_order _ _ _) = omega arith

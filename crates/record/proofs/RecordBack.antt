@@ -1,4 +1,5 @@
 -- A record that fits, written and read back, is the same record.
+use Rattle.std.specs.Prelude.{Option, None, Some, Ok}
 use mathlib.Core.Path.{◌≡◌, refl, ap}
 use mathlib.Core.Bool.{true}
 use Prim.Native.Nat.{ℕ, ◌+◌, ◌*◌, ◌/◌, ◌%◌, ◌<◌}
@@ -11,13 +12,10 @@ use Rattle.events.specs.declared.Value.{Value}
 use Rattle.events.specs.declared.Value.TheVariants.{U, Known}
 use Rattle.events.specs.declared.Event.{Event}
 use Rattle.events.specs.declared.Event.TheVariants.{Init, Load, Store, Update}
-use Rattle.events.specs.declared.Link.{Link}
-use Rattle.events.specs.declared.Link.TheVariants.{Absent, To}
 use Rattle.events.specs.declared.Record.{Record}
 use Rattle.events.specs.Words.{code_of, is_read}
 use Rattle.laws.proofs.Says.{says_T}
 use Rattle.record.specs.declared.written.Columns.{Columns}
-use Rattle.record.specs.declared.Decoded.TheVariants.{Good}
 use Rattle.record.specs.Form.{order_from, link_from, link_byte, word, read_u, written_u, value_from, event_from, number_of, flags_of, in_row, rested, decided_by, decode, columns_of, bytes_by, encode}
 use Rattle.record.specs.Fits.{Fits}
 use Rattle.record.proofs.BytesBack.{kind_below}
@@ -31,10 +29,10 @@ order_back Rel = refl
 order_back Ar = refl
 order_back Sc = refl
 
-link_back_lem : (l : Link) → ¬ (l ≡ To 255) → link_from (link_byte l) ≡ l
+link_back_lem : (l : Option ℕ) → ¬ (l ≡ Some 255) → link_from (link_byte l) ≡ l
 unfolding link_from
-link_back_lem Absent h = refl
-link_back_lem (To n) h = rw (ne_eqb n 255 (λ e. h (ap To e)))
+link_back_lem None h = refl
+link_back_lem (Some n) h = rw (ne_eqb n 255 (λ e. h (ap Some e)))
 
 word_back : (n : ℕ) → n % 256 + 256 * (n / 256) ≡ n
 word_back n = omega arith
@@ -63,7 +61,7 @@ event_back (Load o x v) = refl
 event_back (Store o x w) = refl
 event_back (Update o x v w) = refl
 
-rested_back : (t : ℕ) (p s : Link) (e : Event) → (¬ T (is_read e) → s ≡ Absent) → rested (bytes_by t p s (columns_of e)) ≡ true
+rested_back : (t : ℕ) (p s : Option ℕ) (e : Event) → (¬ T (is_read e) → s ≡ None) → rested (bytes_by t p s (columns_of e)) ≡ true
 rested_back t p s Init h = rw (h (λ x. x))
 rested_back t p s (Load o x U) h = refl
 rested_back t p s (Load o x (Known n)) h = refl
@@ -74,12 +72,12 @@ rested_back t p s (Update o x U (Known n)) h = refl
 rested_back t p s (Update o x (Known m) U) h = refl
 rested_back t p s (Update o x (Known m) (Known n)) h = refl
 
-fits_apart : {l : Link} → ((n : ℕ) → l ≡ To n → n < 255) → ¬ (l ≡ To 255)
+fits_apart : {l : Option ℕ} → ((n : ℕ) → l ≡ Some n → n < 255) → ¬ (l ≡ Some 255)
 fits_apart h e =
     let small = h 255 e in
     omega arith
 
-pub decode_encode : (r : Record) → Fits r → decode (encode r) ≡ Good r
+pub decode_encode : (r : Record) → Fits r → decode (encode r) ≡ Ok r
 unfolding decided_by decode encode
 decode_encode r h =
     let f = columns_of r.event in

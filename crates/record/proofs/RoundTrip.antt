@@ -1,4 +1,5 @@
 -- The round trips between records and their sixteen bytes, and what a record that was read is known to be.
+use Rattle.std.specs.Prelude.{None, Some, Ok}
 use mathlib.Core.Path.{◌≡◌, refl, sym, subst, subst⁻¹, ap, ◌∙◌}
 use mathlib.Core.Bool.{Bool, true, false}
 use mathlib.Core.List.{List}
@@ -9,11 +10,9 @@ use borrow.Author.Tests.{eqb-false}
 use Rattle.events.specs.declared.Order.{Order}
 use Rattle.events.specs.declared.Value.{Value}
 use Rattle.events.specs.declared.Value.TheVariants.{Known}
-use Rattle.events.specs.declared.Link.TheVariants.{Absent, To}
 use Rattle.events.specs.declared.Record.{Record}
 use Rattle.events.specs.Words.{code_of, is_read}
 use Rattle.record.specs.declared.written.Columns.{Columns}
-use Rattle.record.specs.declared.Decoded.TheVariants.{Good}
 use Rattle.record.specs.Form.{pick, byte_at, kind_byte, order_byte, parent_byte, source_byte, location_byte, flags_byte, reads_kind, writes_kind, read_u, written_u, in_row, order_from, link_from, value_from, event_from, word, read_from, written_from, record_from, decode, number_of, columns_of, encode}
 use Rattle.record.specs.Refused.{Marked, InRow, Rested, InRange, ReadAs, good}
 use Rattle.record.specs.Fits.{Bytes, Fits}
@@ -31,28 +30,28 @@ pub record Passed (b : List ℕ) (r : Record) : Type 0 where
   pub in_range : InRange b
   pub same : record_from b ≡ r
 
-pub passed : (b : List ℕ) (r : Record) → decode b ≡ Good r → Passed b r
+pub passed : (b : List ℕ) (r : Record) → decode b ≡ Ok r → Passed b r
 passed b r e = go r (subst (ReadAs b) e (read_as b))
   where
-    go : (r : Record) → ReadAs b (Good r) → Passed b r
+    go : (r : Record) → ReadAs b (Ok r) → Passed b r
     go r (good m w s g) = record { marked = m; row = w; rested = s; in_range = g; same = refl }
 
-link_to : (x n : ℕ) → link_from x ≡ To n → (n ≡ x) × ¬ (n ≡ 255)
+link_to : (x n : ℕ) → link_from x ≡ Some n → (n ≡ x) × ¬ (n ≡ 255)
 unfolding link_from
 link_to x n e = go (eqb x 255) refl e
   where
-    go : (t : Bool) → eqb x 255 ≡ t → pick t Absent (To x) ≡ To n → (n ≡ x) × ¬ (n ≡ 255)
+    go : (t : Bool) → eqb x 255 ≡ t → pick t None (Some x) ≡ Some n → (n ≡ x) × ¬ (n ≡ 255)
     go true t e = absurd (let z : ◌≡◌ {A = ℕ} 0 1 = cc in omega arith)
     go false t e =
         let s : n ≡ x = cc in
         (s, λ h. eqb-false x 255 t (sym s ∙ h))
 
-link_below : (x : ℕ) → x < 256 → (n : ℕ) → link_from x ≡ To n → n < 255
+link_below : (x : ℕ) → x < 256 → (n : ℕ) → link_from x ≡ Some n → n < 255
 link_below x small n e =
     let (same, apart) = link_to x n e in
     omega arith
 
-absent : (x : ℕ) → x ≡ 255 → link_from x ≡ Absent
+absent : (x : ℕ) → x ≡ 255 → link_from x ≡ None
 unfolding link_from
 absent x e = rw e
 
@@ -72,7 +71,7 @@ module _ (b : List ℕ) (row : InRow b) (rest : Rested b) where
   reads_kind_lem =
       reads_by (order_from (order_byte b)) (location_byte b) (read_from b) (written_from b) (kind_byte b) (kind_below (kind_byte b) (order_byte b) row)
 
-  no_source : ¬ T (is_read (record_from b).event) → (record_from b).source ≡ Absent
+  no_source : ¬ T (is_read (record_from b).event) → (record_from b).source ≡ None
   no_source n = absent (source_byte b) (rest.source (λ k. n (rw reads_kind_lem k)))
 
   -- what holds of the columns that the bytes give holds of the event's
@@ -103,19 +102,19 @@ module _ (b : List ℕ) (row : InRow b) (rest : Rested b) where
       }
 
 -- and only reads have a source
-pub only_reads : (b : List ℕ) (r : Record) → decode b ≡ Good r → ¬ T (is_read r.event) → r.source ≡ Absent
+pub only_reads : (b : List ℕ) (r : Record) → decode b ≡ Ok r → ¬ T (is_read r.event) → r.source ≡ None
 only_reads b r e =
     let q = passed b r e in
-    subst (λ (x : Record). ¬ T (is_read x.event) → x.source ≡ Absent) q.same (no_source b q.row q.rested)
+    subst (λ (x : Record). ¬ T (is_read x.event) → x.source ≡ None) q.same (no_source b q.row q.rested)
 
 -- a record that was read fits
-pub decode_fits : (b : List ℕ) (r : Record) → Bytes b → decode b ≡ Good r → Fits r
+pub decode_fits : (b : List ℕ) (r : Record) → Bytes b → decode b ≡ Ok r → Fits r
 decode_fits b r bytes e =
     let q = passed b r e in
     subst Fits q.same (fits_from b q.row q.rested bytes q.in_range)
 
 -- "bytes that are read, written back, are the same bytes"
-pub encode_decode : (b : List ℕ) (r : Record) → Whole b → decode b ≡ Good r → encode r ≡ b
+pub encode_decode : (b : List ℕ) (r : Record) → Whole b → decode b ≡ Ok r → encode r ≡ b
 encode_decode b r whole e =
     let q = passed b r e in
     ap encode (sym q.same) ∙ same_bytes b whole q.marked q.row q.rested

@@ -1,6 +1,5 @@
 -- The lists that are bytes, and the records that are read back as they were written.
-use Rattle.std.specs.Prelude.{◌≡◌, List, ℕ, ◌<◌, ◌≤◌, T}
-use Rattle.events.specs.declared.Link.TheVariants.{Absent, To}
+use Rattle.std.specs.Prelude.{◌≡◌, List, ℕ, ◌<◌, ◌≤◌, T, None, Some}
 use Rattle.events.specs.declared.Record.{Record}
 use Rattle.events.specs.Words.{is_read, code_of}
 use Rattle.record.specs.Form.{byte_at, in_row, columns_of, number_of}
@@ -13,8 +12,8 @@ pub record Fits (r : Record) : Type 0 where
   pub row : T (in_row (columns_of r.event).kind (code_of (columns_of r.event).order))
   pub thread : r.thread ≤ 15
   pub location : (columns_of r.event).location ≤ 31
-  pub parent : (n : ℕ) → r.parent ≡ To n → n < 255
-  pub source : (n : ℕ) → r.source ≡ To n → n < 255
-  pub only_reads : ¬ T (is_read r.event) → r.source ≡ Absent
+  pub parent : (n : ℕ) → r.parent ≡ Some n → n < 255
+  pub source : (n : ℕ) → r.source ≡ Some n → n < 255
+  pub only_reads : ¬ T (is_read r.event) → r.source ≡ None
   pub read : number_of (columns_of r.event).read < 65536
   pub written : number_of (columns_of r.event).written < 65536

@@ -1,22 +1,16 @@
 -- What the sixteen bytes of a record say, and the sixteen bytes that a record is written as.
-use Rattle.std.specs.Prelude.{Bool, true, false, not, ◌&&◌, ◌||◌, List, [], ◌∷◌, ◌++◌, ℕ, zero, suc, ◌+◌, ◌*◌, ◌/◌, ◌%◌, eqb, leb, get_or, take, drop}
-use Rattle.std.proofs.Math.Option.{Option, none, some}
+use Rattle.refusals.specs.declared.Fault.{Fault}
+use Rattle.std.specs.Prelude.{Bool, true, false, not, ◌&&◌, ◌||◌, List, [], ◌∷◌, ◌++◌, ℕ, zero, suc, ◌+◌, ◌*◌, ◌/◌, ◌%◌, eqb, leb, get_or, take, drop, Option, None, Some, Err, Ok, Result}
 use Rattle.events.specs.declared.Order.{Order}
 use Rattle.events.specs.declared.Order.TheVariants.{Na, Acq, Rel, Ar, Sc}
 use Rattle.events.specs.declared.Value.{Value}
 use Rattle.events.specs.declared.Value.TheVariants.{U, Known}
 use Rattle.events.specs.declared.Event.{Event}
 use Rattle.events.specs.declared.Event.TheVariants.{Init, Load, Store, Update}
-use Rattle.events.specs.declared.Link.{Link}
-use Rattle.events.specs.declared.Link.TheVariants.{Absent, To}
 use Rattle.events.specs.declared.Record.{Record}
 use Rattle.events.specs.Words.{code_of, order_of, location_of, read_of, written_of}
 use Rattle.refusals.specs.declared.Fault.TheVariants as fault
 use Rattle.record.specs.declared.written.Columns.{Columns}
-use Rattle.record.specs.declared.rules.ByteTest.{ByteTest}
-use Rattle.record.specs.declared.rules.ByteTest.TheVariants.{Fine, Faulty}
-use Rattle.record.specs.declared.Decoded.{Decoded}
-use Rattle.record.specs.declared.Decoded.TheVariants.{Good, Bad}
 
 abbrev pub pick : {A : Type 0} → Bool → A → A → A
 pick true a b = a
@@ -127,8 +121,8 @@ unfoldable pub order_from : ℕ → Order
 order_from o = pick (eqb o 1) Acq (pick (eqb o 2) Rel (pick (eqb o 3) Ar (pick (eqb o 4) Sc Na)))
 
 -- "255 for none"
-unfoldable pub link_from : ℕ → Link
-link_from b = pick (eqb b 255) Absent (To b)
+unfoldable pub link_from : ℕ → Option ℕ
+link_from b = pick (eqb b 255) None (Some b)
 
 -- "low byte first"
 abbrev pub word : ℕ → ℕ → ℕ
@@ -156,25 +150,25 @@ record_from b = record {
 
 -- "numbers 2 to 8 in order within one; the first fault is the answer": 2 to 5. "byte 2 if the kind is above 3, else 3",
 -- "byte 4 if the thread is at fault, else 7": of two faults with one number the first is the answer too
-unfoldable pub decided_by : Bool → Bool → Bool → Bool → Bool → Bool → ℕ → Record → Decoded
+unfoldable pub decided_by : Bool → Bool → Bool → Bool → Bool → Bool → ℕ → Record → Result Record Fault
 decided_by mark kind row rest thread location i r =
     pick mark
     (pick kind
     (pick row
-    (pick rest (pick thread (pick location (Good r) (Bad fault.Location)) (Bad fault.Thread)) (Bad (fault.Rest i)))
-    (Bad fault.Order))
-    (Bad fault.Kind))
-    (Bad fault.Mark)
+    (pick rest (pick thread (pick location (Ok r) (Err fault.Location)) (Err fault.Thread)) (Err (fault.Rest i)))
+    (Err fault.Order))
+    (Err fault.Kind))
+    (Err fault.Mark)
 
-unfoldable pub decode : List ℕ → Decoded
+unfoldable pub decode : List ℕ → Result Record Fault
 decode b =
     decided_by (marked b) (leb (kind_byte b) 3) (in_row (kind_byte b) (order_byte b)) (rested b) (leb (thread_byte b) 15) (leb (location_byte b) 31)
     (least_restless b) (record_from b)
 
 -- the record r unless a test was failed
-abbrev pub unless_faulty : ByteTest → Record → Decoded
-unless_faulty Fine r = Good r
-unless_faulty (Faulty f) r = Bad f
+abbrev pub unless_faulty : Result (Unit {0}) Fault → Record → Result Record Fault
+unless_faulty (Ok tt) r = Ok r
+unless_faulty (Err f) r = Err f
 
 -- ---- the bytes of a record
 
@@ -186,13 +180,13 @@ kind_of (Update o x v w) = 3
 
 -- what a field that a kind lacks holds
 abbrev pub number_or_0 : Option ℕ → ℕ
-number_or_0 none = 0
-number_or_0 (some n) = n
+number_or_0 None = 0
+number_or_0 (Some n) = n
 
 -- a known 0 has the bytes that a value rests with
 abbrev pub value_or_0 : Option Value → Value
-value_or_0 none = Known 0
-value_or_0 (some v) = v
+value_or_0 None = Known 0
+value_or_0 (Some v) = v
 
 abbrev pub columns_of : Event → Columns
 columns_of e = record {
@@ -203,9 +197,9 @@ columns_of e = record {
   written = value_or_0 (written_of e);
 }
 
-abbrev pub link_byte : Link → ℕ
-link_byte Absent = 255
-link_byte (To n) = n
+abbrev pub link_byte : Option ℕ → ℕ
+link_byte None = 255
+link_byte (Some n) = n
 
 abbrev pub number_of : Value → ℕ
 number_of U = 0
@@ -217,7 +211,7 @@ flags_of U (Known n) = 1
 flags_of (Known m) U = 2
 flags_of (Known m) (Known n) = 0
 
-abbrev pub bytes_by : ℕ → Link → Link → Columns → List ℕ
+abbrev pub bytes_by : ℕ → Option ℕ → Option ℕ → Columns → List ℕ
 bytes_by thread parent source f =
     0x45
     ∷ 0x56

@@ -1,10 +1,9 @@
 -- The rows 2 to 5 of document 01's table of refusals, as propositions on the sixteen bytes of a record, and which byte is at fault.
-use Rattle.std.specs.Prelude.{◌≡◌, List, ℕ, ◌%◌, ◌≤◌, T}
-use Rattle.std.proofs.Math.Option.{some}
+use Rattle.refusals.specs.declared.Fault.{Fault}
+use Rattle.events.specs.declared.Record.{Record}
+use Rattle.std.specs.Prelude.{◌≡◌, List, ℕ, ◌%◌, ◌≤◌, T, Some, Err, Ok, Result}
 use Rattle.laws.specs.Least.{LeastNumber}
 use Rattle.refusals.specs.declared.Fault.TheVariants.{Mark, Kind, Order, Rest, Thread, Location}
-use Rattle.record.specs.declared.Decoded.{Decoded}
-use Rattle.record.specs.declared.Decoded.TheVariants.{Good, Bad}
 use Rattle.record.specs.Form.{byte_at, kind_byte, order_byte, thread_byte, source_byte, location_byte, flags_byte, reads_kind, writes_kind, in_row, record_from}
 
 module _ (b : List ℕ) where
@@ -82,14 +81,14 @@ module _ (b : List ℕ) where
     pub location : location_byte b ≤ 31
 
   -- "numbers 2 to 8 in order within one; the first fault is the answer"
-  pub data ReadAs : Decoded → Type 0 where
-    good : Marked → InRow → Rested → InRange → ReadAs (Good (record_from b))
-    bad_2 : ¬ Marked → ReadAs (Bad Mark)
+  pub data ReadAs : Result Record Fault → Type 0 where
+    good : Marked → InRow → Rested → InRange → ReadAs (Ok (record_from b))
+    bad_2 : ¬ Marked → ReadAs (Err Mark)
     -- "for 3 byte 2 if the kind is above 3, else 3"
-    bad_3_kind : Marked → ¬ InRow → ¬ (kind_byte b ≤ 3) → ReadAs (Bad Kind)
-    bad_3_order : Marked → ¬ InRow → kind_byte b ≤ 3 → ReadAs (Bad Order)
+    bad_3_kind : Marked → ¬ InRow → ¬ (kind_byte b ≤ 3) → ReadAs (Err Kind)
+    bad_3_order : Marked → ¬ InRow → kind_byte b ≤ 3 → ReadAs (Err Order)
     -- "for 4 the least byte at fault"
-    bad_4 : {i : ℕ} → Marked → InRow → ¬ Rested → LeastNumber AtFault (some i) → ReadAs (Bad (Rest i))
+    bad_4 : {i : ℕ} → Marked → InRow → ¬ Rested → LeastNumber AtFault (Some i) → ReadAs (Err (Rest i))
     -- "for 5 byte 4 if the thread is at fault, else 7"
-    bad_5_thread : Marked → InRow → Rested → ¬ InRange → ¬ (thread_byte b ≤ 15) → ReadAs (Bad Thread)
-    bad_5_location : Marked → InRow → Rested → ¬ InRange → thread_byte b ≤ 15 → ReadAs (Bad Location)
+    bad_5_thread : Marked → InRow → Rested → ¬ InRange → ¬ (thread_byte b ≤ 15) → ReadAs (Err Thread)
+    bad_5_location : Marked → InRow → Rested → ¬ InRange → thread_byte b ≤ 15 → ReadAs (Err Location)

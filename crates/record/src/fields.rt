@@ -7,7 +7,7 @@ use crate::places::{
     UPDATE, WRITTEN, WRITTEN_HIGH,
 };
 use crate::rules;
-use events::{Event, Link, Order, Record, Value};
+use events::{Event, Order, Record, Value};
 
 pub fn order_from(code: u8) -> Order
     ensures { result ≡ order_from code }
@@ -22,21 +22,17 @@ pub fn order_from(code: u8) -> Order
 }
 
 // The link that a byte is.
-pub fn link_from(byte: u8) -> Link
+pub fn link_from(byte: u8) -> Option<u8>
     ensures { result ≡ link_from byte }
 {
-    if byte == NONE {
-        Link::Absent
-    } else {
-        Link::To(byte)
-    }
+    if byte == NONE { None } else { Some(byte) }
 }
 
 // Two bytes as a number, low byte first.
 pub fn word_of(low: u8, high: u8) -> u16
     ensures { result ≡ low + 256 * high }
 {
-    (low as u16) + 256 * (high as u16)
+    u16::from_le_bytes([low, high])
 }
 
 fn value_from(u: bool, number: u16) -> Value

@@ -8,13 +8,6 @@ use crate::places::{
 };
 use refusals::Fault;
 
-// What the tests 2 to 5 say.
-#[derive(Drop)]
-pub enum ByteTest {
-    Fine,
-    Faulty(Fault),
-}
-
 // "The kind and order table, one row for each kind", as bits of one word: five for each kind, the last five for the Init, and among them
 // SC, AR, REL, ACQ, NA. A table of bytes would be laid down anew for each record.
 const ALLOWED: u32 = 0b11000_10101_10011_00001;
@@ -103,28 +96,28 @@ fn least_restless(b: &[u8]) -> usize
 }
 
 // "numbers 2 to 8 in order within one; the first fault is the answer": 2 to 5.
-pub fn first_fault(b: &[u8]) -> ByteTest
+pub fn first_fault(b: &[u8]) -> Result<(), Fault>
     requires { length b.now ≡ record_size }
     ensures { decode b.now ≡ unless_faulty result (record_from b.now) }
 {
     if !marked_at(b) {
-        return ByteTest::Faulty(Fault::Mark);
+        return Err(Fault::Mark);
     }
     if 4 <= b[KIND] {
-        return ByteTest::Faulty(Fault::Kind);
+        return Err(Fault::Kind);
     }
     if !in_row(b[KIND], b[ORDER]) {
-        return ByteTest::Faulty(Fault::Order);
+        return Err(Fault::Order);
     }
     let restless = least_restless(b);
     if restless < SIZE {
-        return ByteTest::Faulty(Fault::Rest(restless));
+        return Err(Fault::Rest(restless));
     }
     if 16 <= b[THREAD] {
-        return ByteTest::Faulty(Fault::Thread);
+        return Err(Fault::Thread);
     }
     if 32 <= b[LOCATION] {
-        return ByteTest::Faulty(Fault::Location);
+        return Err(Fault::Location);
     }
-    ByteTest::Fine
+    Ok(())
 }

@@ -3,7 +3,7 @@ ghost use Rattle.std.specs.Prelude.{◌≡◌, ◌/◌, ◌%◌};
 ghost use Rattle.record.specs.Form.{columns_of, link_byte, number_of, flags_of, encode};
 
 use crate::places::{INIT, LOAD, NONE, SIZE, STORE, UPDATE};
-use events::{Event, Link, Order, Record, Value};
+use events::{Event, Order, Record, Value};
 
 // What the bytes of an event hold, each column what it rests with where the kind lacks it.
 #[derive(Drop)]
@@ -63,13 +63,10 @@ fn columns_of(e: Event) -> Columns
     }
 }
 
-fn link_byte(l: Link) -> u8
+fn link_byte(l: Option<u8>) -> u8
     ensures { result ≡ link_byte l }
 {
-    match l {
-        Link::Absent => NONE,
-        Link::To(n) => n,
-    }
+    l.unwrap_or(NONE)
 }
 
 fn number_of(v: Value) -> u16
@@ -84,15 +81,11 @@ fn number_of(v: Value) -> u16
 fn flags_of(read: Value, written: Value) -> u8
     ensures { result ≡ flags_of read written }
 {
-    match read {
-        Value::U => match written {
-            Value::U => 3,
-            Value::Known(_) => 1,
-        },
-        Value::Known(_) => match written {
-            Value::U => 2,
-            Value::Known(_) => 0,
-        },
+    match (read, written) {
+        (Value::U, Value::U) => 3,
+        (Value::U, Value::Known(_)) => 1,
+        (Value::Known(_), Value::U) => 2,
+        (Value::Known(_), Value::Known(_)) => 0,
     }
 }
 
@@ -111,24 +104,30 @@ fn high(n: u16) -> u8
 pub fn bytes_of(r: Record) -> [u8; SIZE]
     ensures { result ≡ encode r }
 {
-    let parent = r.parent;
-    let source = r.source;
-    let event = r.event;
-    let f = columns_of(event);
-    let order = f.order;
-    let read = f.read;
-    let written = f.written;
+    let Record {
+        thread,
+        parent,
+        source,
+        event,
+    } = r;
+    let Columns {
+        kind,
+        order,
+        location,
+        read,
+        written,
+    } = columns_of(event);
     let x = number_of(read);
     let y = number_of(written);
     [
         0x45,
         0x56,
-        f.kind,
+        kind,
         order.code(),
-        r.thread,
+        thread,
         link_byte(parent),
         link_byte(source),
-        f.location,
+        location,
         flags_of(read, written),
         0,
         low(x),

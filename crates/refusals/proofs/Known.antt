@@ -1,12 +1,11 @@
 -- A refusal is known by what is told of it.
+use Rattle.std.specs.Prelude.{Option, None, Some}
 use mathlib.Core.Path.{◌≡◌, refl, sym, ap, ◌∙◌}
 use mathlib.Core.Bool.{cond}
 use Prim.Native.Nat.{ℕ}
 use lib.Dec.{eqb}
 use Rattle.refusals.specs.declared.Fault.{Fault}
 use Rattle.refusals.specs.declared.Fault.TheVariants.{Mark, Kind, Order, Rest, Thread, Location, Parent, Source, Twin}
-use Rattle.refusals.specs.declared.Byte.{Byte}
-use Rattle.refusals.specs.declared.Byte.TheVariants.{Unnamed, Named}
 use Rattle.refusals.specs.declared.Refusal.{Refusal}
 use Rattle.refusals.specs.declared.Refusal.TheVariants.{Length, Record, Selection, Incomplete, Room, Full, Past, Header, Short}
 use Rattle.refusals.specs.declared.Told.{Told}
@@ -38,9 +37,9 @@ placed_from k n =
     (cond (eqb k 9) Selection
     (cond (eqb k 10) (Incomplete n) (cond (eqb k 11) Room (cond (eqb k 12) Full (cond (eqb k 13) (Past n) (cond (eqb k 14) (Header n) (Short n)))))))
 
-refusal_by : ℕ → ℕ → Byte → Refusal
-refusal_by k n Unnamed = placed_from k n
-refusal_by k n (Named i) = Record (fault_from k i) n
+refusal_by : ℕ → ℕ → Option ℕ → Refusal
+refusal_by k n None = placed_from k n
+refusal_by k n (Some i) = Record (fault_from k i) n
 
 refusal_from : Told → Refusal
 refusal_from x = refusal_by x.number x.place x.byte

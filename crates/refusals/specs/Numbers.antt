@@ -1,8 +1,7 @@
 -- The number and the place of each refusal, document 01's and those of a batch, and the byte that a record's refusal names.
-use Rattle.std.specs.Prelude.{ℕ}
+use Rattle.std.specs.Prelude.{ℕ, None, Some}
 use Rattle.refusals.specs.declared.Fault.{Fault}
 use Rattle.refusals.specs.declared.Fault.TheVariants.{Mark, Kind, Order, Rest, Thread, Location, Parent, Source, Twin}
-use Rattle.refusals.specs.declared.Byte.TheVariants.{Unnamed, Named}
 use Rattle.refusals.specs.declared.Told.{Told}
 use Rattle.refusals.specs.declared.Refusal.{Refusal}
 use Rattle.refusals.specs.declared.Refusal.TheVariants as refusal
@@ -38,11 +37,11 @@ fault_byte Twin = 5
 
 -- number and place as one value: "refused 1 at 0". "Refusals from elsewhere in document 01 and 14, 15 name no byte."
 abbrev pub at : ℕ → ℕ → Told
-at number place = record { number = number; place = place; byte = Unnamed }
+at number place = record { number = number; place = place; byte = None }
 
 -- and with a record's byte: "refused 4 at 17 byte 9"
 abbrev pub of_record : Fault → ℕ → Told
-of_record f n = record { number = fault_number f; place = n; byte = Named (fault_byte f) }
+of_record f n = record { number = fault_number f; place = n; byte = Some (fault_byte f) }
 
 -- all the rows of the table of refusal numbers. "Its place is the record number; for 1, 9, 11, 12 it is 0, for 10 the least such kept
 -- record, for 13 the number asked for."

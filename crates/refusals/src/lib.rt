@@ -5,7 +5,7 @@ ghost use Rattle.std.specs.Prelude.{◌≡◌};
 ghost use Rattle.refusals.specs.Numbers.{fault_number, fault_byte, at, of_record, told};
 
 // What is wrong with a record: refusals 2 to 8. Where a number names one of two bytes it has a case for each; `Rest` holds the least byte at fault.
-#[derive(Clone, Copy)]
+#[derive(Clone, Copy, Debug, PartialEq, Eq)]
 pub enum Fault {
     Mark,
     Kind,
@@ -19,7 +19,7 @@ pub enum Fault {
 }
 
 // Refusals 1 to 15; those with a place carry it.
-#[derive(Clone, Copy)]
+#[derive(Clone, Copy, Debug, PartialEq, Eq)]
 pub enum Refusal {
     Length,
     Record(Fault, usize),
@@ -32,19 +32,12 @@ pub enum Refusal {
     Short(usize),
 }
 
-// Which byte of a record is named, if one is.
-#[derive(Clone, Copy)]
-pub enum Byte {
-    Unnamed,
-    Named(usize),
-}
-
-// What is told of a refusal: its number, its place, and the byte of a record.
-#[derive(Clone, Copy)]
+// What is told of a refusal: its number, its place, and the byte of a record, if one is named.
+#[derive(Clone, Copy, Debug, PartialEq, Eq)]
 pub struct Told {
     pub number: usize,
     pub place: usize,
-    pub byte: Byte,
+    pub byte: Option<usize>,
 }
 
 impl Fault {
@@ -89,7 +82,7 @@ impl Told {
         Told {
             number,
             place,
-            byte: Byte::Unnamed,
+            byte: None,
         }
     }
 
@@ -100,7 +93,7 @@ impl Told {
         Told {
             number: fault.number(),
             place,
-            byte: Byte::Named(fault.byte()),
+            byte: Some(fault.byte()),
         }
     }
 }

@@ -3,9 +3,11 @@ use mathlib.Core.Path.{◌≡◌, refl, ap, ap₂, ◌∙◌}
 use mathlib.Core.Logic.{◌⊎◌, inl, inr, ⊎_elim}
 use Prim.Native.Nat.{ℕ, zero, suc, ◌+◌, ◌-◌, ◌*◌, ◌/◌, ◌%◌, ◌^◌, ◌<◌}
 use native.Mathlib.Nat.{mod-lt, div-eq_of_lt, zero-lt-suc, one-mul}
+use mir.Syntax.{w64}
+use Rattle.std.proofs.lemmas.Nat.Bits.{bit_at-zero, bit_at_not}
 use native.Mathlib.Omega.{arith}
-use lib.Bits.{bit_and, bit_or, bit_xor, or_shr, or_mod, and_shr, and_mod, xor_shr, xor_mod, shifted_even}
-use lib.Pow.{pow_pos, pow-add, pow-lt, shl_exact, shl-shr, shr-shr}
+use lib.Bits.{bit_and, bit_or, or_shr, or_mod, and_shr, and_mod, shifted_even}
+use lib.Pow.{pow-add, pow-lt, shl_exact, shl-shr, shr-shr}
 use Rattle.laws.proofs.Closure.{tri}
 use Rattle.rows.specs.Sets.{digit}
 
@@ -70,27 +72,17 @@ module _ {P Q : Type 0} (x y i : ℕ) (p : Bit P (digit x i)) (q : Bit Q (digit 
       by (off e p) (on h q) = off (ap₂ bit_and e h) (λ z. p z.0)
       by (off e p) (off h q) = off (ap₂ bit_and e h) (λ z. p z.0)
 
-  -- `x & (x ^ y)`
-  pub digit_less : Bit (P × (¬ Q)) (digit (bit_and x (bit_xor x y)) i)
-  digit_less = bit_at same (by p q)
-    where
-      same : digit (bit_and x (bit_xor x y)) i ≡ bit_and (digit x i) (bit_xor (digit x i) (digit y i))
-      same =
-          ap (λ (z : ℕ). z % 2) (and_shr x (bit_xor x y) i ∙ ap (bit_and (x / 2 ^ i)) (xor_shr x y i))
-          ∙ and_mod (x / 2 ^ i) (bit_xor (x / 2 ^ i) (y / 2 ^ i)) 1
-          ∙ ap (bit_and (digit x i)) (xor_mod (x / 2 ^ i) (y / 2 ^ i) 1)
-
-      by : {d e : ℕ} → Bit P d → Bit Q e → Bit (P × (¬ Q)) (bit_and d (bit_xor d e))
-      by (on e p) (on h q) = off (ap₂ (λ (u v : ℕ). bit_and u (bit_xor u v)) e h) (λ z. z.1 q)
-      by (on e p) (off h q) = on (ap₂ (λ (u v : ℕ). bit_and u (bit_xor u v)) e h) (p, q)
-      by (off e p) (on h q) = off (ap₂ (λ (u v : ℕ). bit_and u (bit_xor u v)) e h) (λ z. p z.0)
-      by (off e p) (off h q) = off (ap₂ (λ (u v : ℕ). bit_and u (bit_xor u v)) e h) (λ z. p z.0)
-
-pub digit_zero : (i : ℕ) → digit 0 i ≡ 0
-digit_zero i = ap (λ (z : ℕ). z % 2) (div-eq_of_lt (pow_pos i))
+-- `x & !y`
+pub digit_less :
+    {P Q : Type 0} (x y i : ℕ) → Bit P (digit x i) → Bit Q (digit y i) → y < 2 ^ 64 → i < 64 → Bit (P × (¬ Q)) (digit (bit_and x (2 ^ 64 - 1 - y)) i)
+digit_less x y i p q fits low = digit_and x (2 ^ 64 - 1 - y) i p (not_of q)
+  where
+    not_of : {Q : Type 0} → Bit Q (digit y i) → Bit (¬ Q) (digit (2 ^ 64 - 1 - y) i)
+    not_of (on e q) = off (bit_at_not w64 y i fits low ∙ ap (λ (z : ℕ). 1 - z) e) (λ n. n q)
+    not_of (off e n) = on (bit_at_not w64 y i fits low ∙ ap (λ (z : ℕ). 1 - z) e) n
 
 pub never_in_zero : (i : ℕ) → ¬ (digit 0 i ≡ 1)
-never_in_zero i e = let z = digit_zero i in omega (arith, z, e)
+never_in_zero i e = let z = bit_at-zero i in omega (arith, z, e)
 
 -- `1 << s`
 pub digit_one : (s i : ℕ) → s < 64 → Bit (i ≡ s) (digit (1 * 2 ^ s % 2 ^ 64) i)

@@ -4,9 +4,7 @@ pub mod Sets
 pub mod Parts
 pub mod Rows
 pub mod Noted
-pub mod Trailing
 pub mod Leading
-pub mod Words
 pub mod Along
 pub mod Steps
 pub mod Unique

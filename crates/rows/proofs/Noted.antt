@@ -10,10 +10,10 @@ use Rattle.rows.specs.Rows.{On, Holds, MadeRow, Made}
 use Rattle.rows.proofs.Rows.{made_row_iff, made_again, made_held, holds_iff}
 
 -- rows of R, of which S has b more at most
-module _ {w h b : ℕ} (R S : Rel) {m : List ℕ} (up : (a l : ℕ) → R a l → S a l) (down : (a l : ℕ) → S a l → R a l ⊎ (a ≡ b)) (held : Holds w h R m) where
+module _ {w h b : ℕ} (R S : Rel) {m : List (List ℕ)} (up : (a l : ℕ) → R a l → S a l) (down : (a l : ℕ) → S a l → R a l ⊎ (a ≡ b)) (held : Holds w h R m) where
   -- S has b in row l alone, and the row takes it in
   pub noted :
-      {l : ℕ} {m' : List ℕ} → l < h → S b l → ((k : ℕ) → S b k → k ≡ l) → MadeRow w l (λ a. On w m a l ⊎ (a ≡ b)) m m' → Made w h S m m'
+      {l : ℕ} {m' : List (List ℕ)} → l < h → S b l → ((k : ℕ) → S b k → k ≡ l) → MadeRow w l (λ a. On w m a l ⊎ (a ≡ b)) m m' → Made w h S m m'
   noted {l} low here one r =
       made_again l low (λ a k ne. up a k) (λ a k ne s. ⊎_elim (λ x. x) (λ e. absurd (ne (one k (subst (λ (z : ℕ). S z k) e s)))) (down a k s)) (made_held held)
       (made_row_iff (λ a. ⊎_elim (λ o. up a l (held.only a l low o)) (λ e. subst (λ (z : ℕ). S z l) (sym e) here))

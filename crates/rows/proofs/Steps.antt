@@ -93,7 +93,7 @@ module _ {R S : Rel} {a b : ℕ} where
 
 -- a step to b comes from a row that holds R already
 pub then_held :
-    {w b : ℕ} {R S : Rel} {m : List ℕ} {r : Set} → ((v : ℕ) → S v b → v < b) → Holds w b R m → Is r (λ a. Then (On w m) S a b)
+    {w b : ℕ} {R S : Rel} {m : List (List ℕ)} {r : Set w} → ((v : ℕ) → S v b → v < b) → Holds w b R m → Is r (λ a. Then (On w m) S a b)
     → Is r (λ a. Then R S a b)
 then_held rises h =
     is_iff (λ a t. record { mid = t.mid; first = h.only a t.mid (rises t.mid t.next) t.first; next = t.next })

@@ -1,14 +1,16 @@
 -- Two sets, or two matrices, of which the same is said are the same.
-use mathlib.Core.Path.{◌≡◌, sym, ap₂, ◌∙◌}
-use mathlib.Core.List.{List}
-use Prim.Native.Nat.{ℕ, zero, suc, ◌+◌, ◌*◌, ◌/◌, ◌%◌, ◌^◌, ◌<◌}
+use mathlib.Core.Path.{◌≡◌, sym, ap, subst, ◌∙◌}
+use mathlib.Core.List.{List, []}
+use Prim.Native.Nat.{ℕ, ◌+◌, ◌*◌, ◌/◌, ◌%◌, ◌^◌, ◌<◌}
 use native.Mathlib.Omega.{arith}
 use lib.ListN.{get_or}
+use Rattle.std.proofs.lemmas.Nat.Bits.{same_from_bits_below}
 use Rattle.rows.specs.declared.set.Set.{Set}
-use Rattle.rows.specs.Sets.{digit, word_of, In, Is}
-use Rattle.rows.specs.Rows.{On, MadeRow}
+use Rattle.rows.specs.Sets.{digit, In, Is}
+use Rattle.rows.specs.Rows.{MadeRow}
 use Rattle.rows.proofs.Digits.{Bit, digit_is}
-use Rattle.rows.proofs.Trailing.{half_lt, digit_low, digit_high}
+use Rattle.rows.proofs.Sets.{is_iff}
+use Rattle.rows.proofs.Rows.{is_row}
 
 -- a bit is known by whether it is 1
 digit_one_of : (x y i j : ℕ) → (digit x i ≡ 1 → digit y j ≡ 1) → (digit y j ≡ 1 → digit x i ≡ 1) → digit x i ≡ digit y j
@@ -20,60 +22,32 @@ digit_one_of x y i j f g = by (digit_is x i) (digit_is y j)
     by (Bit.off e p) (Bit.on h q) = absurd (p (g q))
     by (Bit.off e p) (Bit.off h q) = e ∙ sym h
 
--- words with the same bits are the same
-word_one : (k x y : ℕ) → x < 2 ^ k → y < 2 ^ k → ((i : ℕ) → i < k → digit x i ≡ digit y i) → x ≡ y
-word_one zero x y h l e = omega arith
-word_one (suc k) x y h l e =
-    let low : x % 2 ≡ y % 2 = sym (digit_low x) ∙ (e 0 (omega arith) ∙ digit_low y) in
-    let high = word_one k (x / 2) (y / 2) (half_lt k h) (half_lt k l) (λ i j. sym (digit_high x i) ∙ (e (suc i) (omega arith) ∙ digit_high y i)) in
-    omega (arith, low, high)
+-- two words are one if a number that either has is the other's too
+word_one : (x y k : ℕ) → x < 2 ^ 64 → y < 2 ^ 64
+    → ((a : ℕ) → a / 64 ≡ k → digit x (a % 64) ≡ 1 → digit y (a % 64) ≡ 1) → ((a : ℕ) → a / 64 ≡ k → digit y (a % 64) ≡ 1 → digit x (a % 64) ≡ 1)
+    → x ≡ y
+word_one x y k f g there back = same_from_bits_below 64 x y f g (λ i l. digit_one_of x y i i (at x y i l there) (at y x i l back))
+  where
+    at : (x y i : ℕ) → i < 64 → ((a : ℕ) → a / 64 ≡ k → digit x (a % 64) ≡ 1 → digit y (a % 64) ≡ 1) → digit x i ≡ 1 → digit y i ≡ 1
+    at x y i l h e =
+        let place : (64 * k + i) % 64 ≡ i = omega arith in
+        subst (λ (z : ℕ). digit y z ≡ 1) place (h (64 * k + i) (omega arith) (subst (λ (z : ℕ). digit x z ≡ 1) (sym place) e))
 
-module _ {x y : Set} {P : ℕ → Type 0} (p : Is x P) (q : Is y P) where
-  same_bits : (k i : ℕ) → i < 64 → digit (word_of x k) i ≡ digit (word_of y k) i
-  same_bits k i l =
-      digit_one_of (word_of x k) (word_of y k) i i (λ e. out y (q.all (64 * k + i) (p.only (64 * k + i) (in_at x e))))
-      (λ e. out x (p.all (64 * k + i) (q.only (64 * k + i) (in_at y e))))
+-- each word of a set
+module _ {W : ℕ} {x y : Set W} {P : ℕ → Type 0} (p : Is x P) (q : Is y P) where
+  pub set_one : (k : ℕ) → k < W → get_or x.words k 0 < 2 ^ 64 → get_or y.words k 0 < 2 ^ 64 → get_or x.words k 0 ≡ get_or y.words k 0
+  set_one k l f g = word_one (get_or x.words k 0) (get_or y.words k 0) k f g (of x y p q) (of y x q p)
     where
-      word : (64 * k + i) / 64 ≡ k
-      word = omega arith
+      of : (x y : Set W) → Is x P → Is y P → (a : ℕ) → a / 64 ≡ k → digit (get_or x.words k 0) (a % 64) ≡ 1 → digit (get_or y.words k 0) (a % 64) ≡ 1
+      of x y p q a e h =
+          let i : In x a = record { col = omega arith; is1 = ap (λ (z : ℕ). digit (get_or x.words z 0) (a % 64)) e ∙ h } in
+          ap (λ (z : ℕ). digit (get_or y.words z 0) (a % 64)) (sym e) ∙ (q.all a (p.only a i)).is1
 
-      place : (64 * k + i) % 64 ≡ i
-      place = omega arith
-
-      at : (s : Set) → digit (word_of s ((64 * k + i) / 64)) ((64 * k + i) % 64) ≡ digit (word_of s k) i
-      at s = ap₂ (λ (u v : ℕ). digit (word_of s u) v) word place
-
-      in_at : (s : Set) → digit (word_of s k) i ≡ 1 → In s (64 * k + i)
-      in_at s e = record { is1 = at s ∙ e }
-
-      out : (s : Set) → In s (64 * k + i) → digit (word_of s k) i ≡ 1
-      out s n = sym (at s) ∙ n.is1
-
-  -- each of the four words
-  pub set_one : (k : ℕ) → word_of x k < 2 ^ 64 → word_of y k < 2 ^ 64 → word_of x k ≡ word_of y k
-  set_one k h l = word_one 64 (word_of x k) (word_of y k) h l (same_bits k)
-
--- the words of a row
-module _ {w b : ℕ} {P : ℕ → Type 0} {m₀ m m' : List ℕ} (p : MadeRow w b P m₀ m) (q : MadeRow w b P m₀ m') where
-  pub made_row_one : (k : ℕ) → k < w → get_or m (b * w + k) 0 < 2 ^ 64 → get_or m' (b * w + k) 0 < 2 ^ 64 → get_or m (b * w + k) 0 ≡ get_or m' (b * w + k) 0
-  made_row_one k h f g = word_one 64 (get_or m (b * w + k) 0) (get_or m' (b * w + k) 0) f g same
+-- each word of a row
+module _ {w b : ℕ} {P : ℕ → Type 0} {m₀ m m' : List (List ℕ)} (p : MadeRow w b P m₀ m) (q : MadeRow w b P m₀ m') where
+  pub made_row_one :
+      (k : ℕ) → k < w → get_or (get_or m b []) k 0 < 2 ^ 64 → get_or (get_or m' b []) k 0 < 2 ^ 64 → get_or (get_or m b []) k 0 ≡ get_or (get_or m' b []) k 0
+  made_row_one = set_one {W = w} {x = record { words = get_or m b [] }} {y = record { words = get_or m' b [] }} (is p) (is q)
     where
-      word : (i : ℕ) → i < 64 → (64 * k + i) / 64 ≡ k
-      word i l = omega arith
-
-      place : (i : ℕ) → i < 64 → (64 * k + i) % 64 ≡ i
-      place i l = omega arith
-
-      at : (z : List ℕ) (i : ℕ) → i < 64 → digit (get_or z (b * w + (64 * k + i) / 64) 0) ((64 * k + i) % 64) ≡ digit (get_or z (b * w + k) 0) i
-      at z i l = ap₂ (λ (u v : ℕ). digit (get_or z (b * w + u) 0) v) (word i l) (place i l)
-
-      on_at : (z : List ℕ) (i : ℕ) → i < 64 → digit (get_or z (b * w + k) 0) i ≡ 1 → On w z (64 * k + i) b
-      on_at z i l e = record { col = omega arith; is1 = at z i l ∙ e }
-
-      out : (z : List ℕ) (i : ℕ) → i < 64 → On w z (64 * k + i) b → digit (get_or z (b * w + k) 0) i ≡ 1
-      out z i l o = sym (at z i l) ∙ o.is1
-
-      same : (i : ℕ) → i < 64 → digit (get_or m (b * w + k) 0) i ≡ digit (get_or m' (b * w + k) 0) i
-      same i l =
-          digit_one_of (get_or m (b * w + k) 0) (get_or m' (b * w + k) 0) i i
-          (λ e. out m' i l (q.all (64 * k + i) (p.only (64 * k + i) (on_at m i l e)))) (λ e. out m i l (p.all (64 * k + i) (q.only (64 * k + i) (on_at m' i l e))))
+      is : {m : List (List ℕ)} → MadeRow w b P m₀ m → Is {W = w} (record { words = get_or m b [] }) P
+      is {m} r = is_iff r.only r.all (is_row w m b)

@@ -1,6 +1,7 @@
 // Relations on small numbers held in rows of 64-bit words, and the sets that their rows are.
 #![tactic(auto)]
 
+pub mod bits;
 pub mod led;
 pub mod row;
 pub mod search;

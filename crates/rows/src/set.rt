@@ -1,63 +1,66 @@
-// A set of numbers below 256 as a value: four words, a bit for each number.
-ghost use Rattle.std.specs.Prelude.{◌⊎◌, ℕ};
+// A set of small numbers as a value: words with a bit for each number.
+ghost use Rattle.std.specs.Prelude.{◌⊎◌, ◌≡◌, ℕ, ◌*◌, ◌<◌};
 ghost use Rattle.laws.specs.Says.{Says};
 ghost use Rattle.rows.specs.Sets.{In, Is};
 
+use crate::bits::take_in;
+
 #[derive(Clone, Copy)]
-pub struct Set {
-    pub first: u64,
-    pub second: u64,
-    pub third: u64,
-    pub fourth: u64,
+pub struct Set<const W: usize> {
+    pub words: [u64; W],
 }
 
-pub fn nothing() -> Set
-    ensures { Is result (λ a. ⊥) }
-{
-    Set {
-        first: 0,
-        second: 0,
-        third: 0,
-        fourth: 0,
+impl<const W: usize> Set<W> {
+    pub fn nothing() -> Self
+        ensures { Is result (λ a. ⊥) }
+    {
+        Set { words: [0; W] }
     }
-}
 
-pub fn either(x: Set, y: Set) -> Set
-    ensures { Is result (λ a. In x a ⊎ In y a) }
-{
-    Set {
-        first: x.first | y.first,
-        second: x.second | y.second,
-        third: x.third | y.third,
-        fourth: x.fourth | y.fourth,
+    pub fn has(self, a: usize) -> bool
+        requires { a < 64 * W }
+        ensures { Says result (In self.entry a) }
+    {
+        (self.words[a / 64] >> (a % 64)) % 2 == 1
     }
-}
 
-pub fn both(x: Set, y: Set) -> Set
-    ensures { Is result (λ a. In x a × In y a) }
-{
-    Set {
-        first: x.first & y.first,
-        second: x.second & y.second,
-        third: x.third & y.third,
-        fourth: x.fourth & y.fourth,
+    pub fn add(&mut self, a: usize)
+        requires { a < 64 * W }
+        ensures { Is self.new (λ x. In self.old x ⊎ (x ≡ a)) }
+    {
+        take_in(&mut self.words, a);
     }
-}
 
-// `x & (x ^ y)` is `x & !y` for whatever words.
-pub fn without(x: Set, y: Set) -> Set
-    ensures { Is result (λ a. In x a × (¬ In y a)) }
-{
-    Set {
-        first: x.first & (x.first ^ y.first),
-        second: x.second & (x.second ^ y.second),
-        third: x.third & (x.third ^ y.third),
-        fourth: x.fourth & (x.fourth ^ y.fourth),
+    pub fn or(mut self, y: Self) -> Self
+        ensures { Is result (λ a. In self.entry a ⊎ In y.entry a) }
+    {
+        for k in 0..W {
+            self.words[k] |= y.words[k];
+        }
+        self
     }
-}
 
-pub fn is_empty(x: Set) -> bool
-    ensures { Says result ((a : ℕ) → ¬ In x a) }
-{
-    ((x.first | x.second) | (x.third | x.fourth)) == 0
+    pub fn and(mut self, y: Self) -> Self
+        ensures { Is result (λ a. In self.entry a × In y.entry a) }
+    {
+        for k in 0..W {
+            self.words[k] &= y.words[k];
+        }
+        self
+    }
+
+    pub fn without(mut self, y: Self) -> Self
+        ensures { Is result (λ a. In self.entry a × (¬ In y.entry a)) }
+    {
+        for k in 0..W {
+            self.words[k] &= !y.words[k];
+        }
+        self
+    }
+
+    pub fn is_empty(self) -> bool
+        ensures { Says result ((a : ℕ) → ¬ In self.entry a) }
+    {
+        self.words.iter().all(|x| *x == 0)
+    }
 }

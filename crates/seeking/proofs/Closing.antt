@@ -20,7 +20,7 @@ use Rattle.seeking.proofs.Cycles.{wb0_within}
 
 -- a copy has the same classes
 pub classes_copied :
-    {w n h : ℕ} {class members m x x' : List ℕ} → InClasses w n h class members m → Room w n n x → Made w n (On w m) x x' → InClasses w n h class members x'
+    {w n h : ℕ} {class : List ℕ} {members m x x' : List (List ℕ)} → InClasses w n h class members m → Room w n n x → Made w n (On w m) x x' → InClasses w n h class members x'
 classes_copied {w} {n} {h} {class} {members} {m} {x} {x'} g room made = record {
   column = g.column;
   known = g.known;
@@ -36,7 +36,7 @@ classes_copied {w} {n} {h} {class} {members} {m} {x} {x'} g room made = record {
 
 -- wb0 relates writes of one location: its steps stay at one place
 pub wb0_classes :
-    {t : Table} {w n : ℕ} {parent sync place order hb writes readers wb0 : List ℕ} → Sequenced t w n parent sync place order hb writes readers wb0
+    {t : Table} {w n : ℕ} {parent sync place order : List ℕ} {hb writes readers wb0 : List (List ℕ)} → Sequenced t w n parent sync place order hb writes readers wb0
     → Room w n 33 writes → Room w n n wb0 → InClasses w n 33 place writes wb0
 wb0_classes {t} {w} {n} {place = place} {writes = writes} {wb0 = wb0} g for_writes for_wb0 = record {
   column = g.places.long;
@@ -60,17 +60,17 @@ wb0_classes {t} {w} {n} {place = place} {writes = writes} {wb0 = wb0} g for_writ
     one_class a b c = one_place g.known g.places (low a b c) c.row (step a b c).one_location
 
 module _ {t : Table} {w n : ℕ} (k : Known t n) where
-  module _ {m : List ℕ} (held : Holds w n (Wb0 t) m) where
+  module _ {m : List (List ℕ)} (held : Holds w n (Wb0 t) m) where
     pub steps_told : {a b : ℕ} → Plus (Cell w n m) a b → Wb t a b
     steps_told = plus_to (λ a b c. held.only a b c.row c.on)
 
     pub told_steps : {a b : ℕ} → Wb t a b → Plus (Cell w n m) a b
     told_steps = plus_to (λ a b s. record { row = (wb0_within k).right s; on = held.all a b ((wb0_within k).right s) s })
 
-    pub wb_made : {x x' : List ℕ} → Made w n (Plus (Cell w n m)) x x' → Made w n (Wb t) x x'
+    pub wb_made : {x x' : List (List ℕ)} → Made w n (Plus (Cell w n m)) x x' → Made w n (Wb t) x x'
     wb_made = made_iff (λ a b l. steps_told) (λ a b l. told_steps)
 
-  module _ {readers : List ℕ} (by : Holds w n (λ a s. Source t s a) readers) where
+  module _ {readers : List (List ℕ)} (by : Holds w n (λ a s. Source t s a) readers) where
     -- a reader of what is wb before b
     pub overtaken : {a b v : ℕ} → On w readers a v → Wb t v b → Overtaken t a b
     overtaken {a} {b} {v} o s = record { s = v; source = by.only a v ((plus_within (wb0_within k)).left s) o; before = s }
@@ -82,7 +82,7 @@ module _ {t : Table} {w n : ℕ} (k : Known t n) where
 
     -- by rows that rise
     pub closed_risen :
-        {m order wb over wb' over' : List ℕ} → Holds w n (Wb0 t) m → Made w n (Plus (Cell w n m)) wb wb' → Made w n (Then (On w readers) (Plus (Cell w n m))) over over'
+        {m : List (List ℕ)} {order : List ℕ} {wb over wb' over' : List (List ℕ)} → Holds w n (Wb0 t) m → Made w n (Plus (Cell w n m)) wb wb' → Made w n (Then (On w readers) (Plus (Cell w n m))) over over'
         → Closed t w n order wb over wb' over'
     closed_risen held made led = record {
       by_wb = wb_made held made;
@@ -93,7 +93,7 @@ module _ {t : Table} {w n : ℕ} (k : Known t n) where
 
     -- by a copy that is closed, and the readers of each SC record's row of it
     pub closed_gathered :
-        {m order wb over copied wb' over' : List ℕ} → Holds w n (Wb0 t) m → Made w n (On w m) wb copied → Made w n (Plus (Cell w n copied)) copied wb'
+        {m : List (List ℕ)} {order : List ℕ} {wb over copied wb' over' : List (List ℕ)} → Holds w n (Wb0 t) m → Made w n (On w m) wb copied → Made w n (Plus (Cell w n copied)) copied wb'
         → Made w n (λ a b. (get_or order b 0 ≡ 4) × Then (Cell w n readers) (On w wb') a b) over over' → Closed t w n order wb over wb' over'
     closed_gathered {copied = copied} {wb' = wb'} held copy made gather = record {
       by_wb = made_trans copy by_wb;

@@ -15,7 +15,7 @@ use Rattle.model.proofs.Within as within
 use Rattle.columns.specs.Columns.{Known}
 
 pub cycle_found :
-    {w n : ℕ} {R : Rel} {m before after : List ℕ} {r : Found} → Within n R → Holds w n R m → FindsIn (CycleWith (IsCycle (Cell w n m))) before after r
+    {w n : ℕ} {R : Rel} {m : List (List ℕ)} {before after : List ℕ} {r : Found} → Within n R → Holds w n R m → FindsIn (CycleWith (IsCycle (Cell w n m))) before after r
     → FindsIn (CycleWith (IsCycle R)) before after r
 cycle_found low held = finds_cycle_iff (λ a b c. held.only a b c.row c.on) (λ a b s. record { row = low.right s; on = held.all a b (low.right s) s })
 

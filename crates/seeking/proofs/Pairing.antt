@@ -20,7 +20,7 @@ use Rattle.columns.specs.Columns.{Known}
 
 -- of a matrix whose rows are the pairs of S
 pub pair_found :
-    {w n : ℕ} {Q S : Rel} {m₀ m : List ℕ} {r : Found} → Made w n Q m₀ m → ((p q : ℕ) → q < n → Q p q → S p q) → ((p q : ℕ) → q < n → S p q → Q p q) → Within n S
+    {w n : ℕ} {Q S : Rel} {m₀ m : List (List ℕ)} {r : Found} → Made w n Q m₀ m → ((p q : ℕ) → q < n → Q p q → S p q) → ((p q : ℕ) → q < n → S p q → Q p q) → Within n S
     → Finds (PairWith (λ p q. (p < n) × Cell w n m p q)) r → Finds (PairWith S) r
 pair_found {w} {n} {Q} {S} {m₀} {m} made to from within = finds_iff (λ z. there) (λ z. back)
   where

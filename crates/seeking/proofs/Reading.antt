@@ -1,4 +1,5 @@
 -- What rows and columns tell of a read.
+use Rattle.std.specs.Prelude.{Option, None, Some}
 use mathlib.Core.Path.{◌≡◌, refl, ap, ◌∙◌}
 use mathlib.Core.Bool.{Bool, not, ◌&&◌}
 use mathlib.Core.List.{List}
@@ -12,8 +13,6 @@ use Rattle.rows.specs.declared.set.Set.{Set}
 use Rattle.rows.specs.Sets.{In, Is}
 use Rattle.rows.specs.Rows.{On}
 use Rattle.rows.proofs.Sets.{some_in}
-use Rattle.events.specs.declared.Link.{Link}
-use Rattle.events.specs.declared.Link.TheVariants.{Absent, To}
 use Rattle.events.specs.declared.Event.{Event}
 use Rattle.events.specs.declared.Event.TheVariants.{Init, Load, Store, Update}
 use Rattle.events.specs.Words.{is_read}
@@ -26,7 +25,7 @@ use Rattle.seeking.specs.Reads.{Reading}
 use Rattle.seeking.proofs.Places.{place_low}
 
 -- a set that is not empty has a number
-pub says_some : {x : Set} {P : ℕ → Type 0} {r : Bool} → Is x P → Says r ((a : ℕ) → ¬ In x a) → Says (not r) ((a : ℕ) × P a)
+pub says_some : {W : ℕ} {x : Set W} {P : ℕ → Type 0} {r : Bool} → Is x P → Says r ((a : ℕ) → ¬ In x a) → Says (not r) ((a : ℕ) × P a)
 says_some {x} {P} i s = says_iff (λ n. let (a, h) = some_in x n in (a, i.only a h)) (λ (a, p) n. n a (i.all a p)) (says_not s)
 
 odd_reads : (e : Event) → eqb (kind_of e % 2) 1 ≡ is_read e
@@ -35,7 +34,7 @@ odd_reads (Load o x v) = refl
 odd_reads (Store o x w) = refl
 odd_reads (Update o x v w) = refl
 
-module _ {t : Table} {w n : ℕ} {kind source place at hb race : List ℕ} (g : Reading t w n kind source place at hb race) {b : ℕ} (l : b < n) where
+module _ {t : Table} {w n : ℕ} {kind source place : List ℕ} {at hb race : List (List ℕ)} (g : Reading t w n kind source place at hb race) {b : ℕ} (l : b < n) where
   pub raced_told : {r : Bool} → Says r ((a : ℕ) × On w race a b) → Says r (SomeEarlierRace t b)
   raced_told = says_iff (λ (a, o). (a, g.by_race.only a b l o)) (λ (a, e). (a, g.by_race.all a b l e))
 
@@ -66,9 +65,9 @@ module _ {t : Table} {w n : ℕ} {kind source place at hb race : List ℕ} (g : 
   pub no_source : b ≤ get_or source b 0 → NoSource t b
   no_source h = by (t.at b).source refl
     where
-      by : (s : Link) → (t.at b).source ≡ s → (t.at b).source ≡ Absent
-      by Absent e = e
-      by (To s) e =
+      by : (s : Option ℕ) → (t.at b).source ≡ s → (t.at b).source ≡ None
+      by None e = e
+      by (Some s) e =
           let x = source_leads g.known g.sources l (has_source g.known.formed s b e) in
           absurd (omega (arith, h, x.is, x.falls))
 

@@ -15,7 +15,7 @@ use Rattle.columns.proofs.Apart.{apart_conflicts, conflict_apart}
 use Rattle.columns.proofs.Shown.{a3_told, told_a3}
 
 module _
-    {t : Table} {w n : ℕ} {parent arm source readers m₀ m : List ℕ} (k : Known t n) (p : Column n (parent_number t) parent) (c : Column n (arm_number t) arm)
+    {t : Table} {w n : ℕ} {parent arm source : List ℕ} {readers m₀ m : List (List ℕ)} (k : Known t n) (p : Column n (parent_number t) parent) (c : Column n (arm_number t) arm)
     (s : Column n (source_number t) source) (held : Holds w n (λ a v. Source t v a) readers) (made : Made w n (Apart n parent arm (On w readers)) m₀ m)
   where
     single : (a v u : ℕ) → v < n → u < n → On w readers a v → On w readers a u → v ≡ u

@@ -1,6 +1,6 @@
 -- The steps among SC records, by rows of what they are made of.
+use Rattle.std.specs.Prelude.{None}
 use mathlib.Core.Path.{◌≡◌}
-use mathlib.Core.Option.{none}
 use mathlib.Core.List.{List}
 use Prim.Native.Nat.{ℕ, ◌<◌}
 use native.Mathlib.Omega.{arith}
@@ -31,18 +31,18 @@ steps_by at h d w o (by_wb x) = by_wb (w x)
 steps_by at h d w o (by_over x differ) = by_over (o x) differ
 
 module _
-    {t : Table} {w n : ℕ} (k : Known t n) {place order orders : List ℕ} (p : Column n (place_number t) place) (o : Column n (order_number t) order)
+    {t : Table} {w n : ℕ} (k : Known t n) {place order : List ℕ} {orders : List (List ℕ)} (p : Column n (place_number t) place) (o : Column n (order_number t) order)
     (of : Holds w 5 (λ a l. (a < n) × (get_or order a 0 ≡ l)) orders)
   where
     -- where no record is SC there is no step
-    pub none_sc : ((a : ℕ) → ¬ On w orders a 4) → LeastCycle (ScStep t) none
+    pub none_sc : ((a : ℕ) → ¬ On w orders a 4) → LeastCycle (ScStep t) None
     none_sc empty = none_back (λ z.
         let (b, (a, (s, h))) = z in
         let i = below k (sc_inside k.formed a s.sc_a) in
         empty a (of.all a 4 (omega arith) (i, sc_order k o i s.sc_a)))
 
     pub sc_made :
-        {at hb detour wb over wb₀ over₀ m m' : List ℕ} → Holds w 33 (StandsAt n place) at → Holds w n (Hb t) hb → Holds w n (Detour t) detour
+        {at hb detour wb over wb₀ over₀ m m' : List (List ℕ)} → Holds w 33 (StandsAt n place) at → Holds w n (Hb t) hb → Holds w n (Detour t) detour
         → Closed t w n order wb₀ over₀ wb over → Made w n (Among order place (On w orders) (On w at) (On w hb) (On w detour) (On w wb) (On w over)) m m'
         → Made w n (ScStep t) m m'
     sc_made at hb detour closed =

@@ -1,7 +1,7 @@
 -- Who stands at each place, po≠ and the detours, by rows.
 use mathlib.Core.Path.{◌≡◌}
 use mathlib.Core.List.{List}
-use Prim.Native.Nat.{ℕ, ◌*◌, ◌<◌}
+use Prim.Native.Nat.{ℕ, ◌<◌}
 use native.Mathlib.Omega.{arith}
 use lib.ListN.{get_or}
 use Rattle.laws.specs.Steps.{Rel, Plus}
@@ -24,11 +24,11 @@ use Rattle.seeking.proofs.Places.{place_low}
 
 -- the rows of the 32 places, and an empty one
 pub stands_made :
-    {w n : ℕ} {place at at₁ at₂ : List ℕ} {s : Set} → Made w 32 (λ a l. (a < n) × (get_or place a 0 ≡ l)) at at₁ → Is s (λ a. ⊥)
-    → MadeRow w 32 (λ a. In s a × (a < 64 * w)) at₁ at₂ → Made w 33 (StandsAt n place) at at₂
+    {w n : ℕ} {place : List ℕ} {at at₁ at₂ : List (List ℕ)} {s : Set w} → Made w 32 (λ a l. (a < n) × (get_or place a 0 ≡ l)) at at₁ → Is s (λ a. ⊥)
+    → MadeRow w 32 (In s) at₁ at₂ → Made w 33 (StandsAt n place) at at₂
 stands_made sorted none put =
     made_more (made_iff (λ a l h z. record { low = z.0; at = z.1; some = h }) (λ a l h x. (x.low, x.at)) sorted)
-    (made_row_iff (λ a z. absurd (none.only a z.0)) (λ a x. absurd (omega (arith, x.some))) put)
+    (made_row_iff (λ a z. absurd (none.only a z)) (λ a x. absurd (omega (arith, x.some))) put)
 
 -- told by other relations
 pub elsewhere_by :
@@ -49,17 +49,17 @@ turned_by {n} f g {b} l (above {p = p} x same z) =
     above x same (turned_by f g i z)
 
 module _ {t : Table} {w n : ℕ} (k : Known t n) {parent place : List ℕ} (q : Column n (parent_number t) parent) (p : Column n (place_number t) place) where
-  pub po_made : {m m' : List ℕ} → Made w n (Plus (Leads parent)) m m' → Made w n (Po t) m m'
+  pub po_made : {m m' : List (List ℕ)} → Made w n (Plus (Leads parent)) m m' → Made w n (Po t) m m'
   po_made = made_iff (λ a b l. po_told k q l) (λ a b l. told_po k q l)
 
   pub elsewhere_made :
-      {po at m m' : List ℕ} → Holds w n (Po t) po → Holds w 33 (StandsAt n place) at → Made w n (Elsewhere place (On w po) (On w at)) m m' → Made w n (PoDiff t) m m'
+      {po at m m' : List (List ℕ)} → Holds w n (Po t) po → Holds w 33 (StandsAt n place) at → Made w n (Elsewhere place (On w po) (On w at)) m m' → Made w n (PoDiff t) m m'
   elsewhere_made po at =
       made_iff (λ a b l x. elsewhere_told k p l (elsewhere_by (po.only a b l) (at.all a (get_or place b 0) (place_low k p b l)) x))
       (λ a b l x. elsewhere_by (po.all a b l) (at.only a (get_or place b 0) (place_low k p b l)) (told_elsewhere k p l x))
 
   pub around_made :
-      {sync other m m' : List ℕ} → Column n (sync_number t) sync → Holds w n (PoDiff t) other → Made w n (Then (On w other) (Plus (ByEither parent sync))) m m'
+      {sync : List ℕ} {other m m' : List (List ℕ)} → Column n (sync_number t) sync → Holds w n (PoDiff t) other → Made w n (Then (On w other) (Plus (ByEither parent sync))) m m'
       → Made w n (Then (PoDiff t) (Hb t)) m m'
   around_made s other =
       made_iff
@@ -71,7 +71,7 @@ module _ {t : Table} {w n : ℕ} (k : Known t n) {parent place : List ℕ} (q : 
       record { mid = x.mid; first = other.all a x.mid (omega (arith, h, l)) x.first; next = told_hb k q s l x.next })
 
   pub detour_made :
-      {other around m m' : List ℕ} → Holds w n (PoDiff t) other → Holds w n (Then (PoDiff t) (Hb t)) around → Made w n (Turned parent place (On w other) (On w around)) m m'
+      {other around m m' : List (List ℕ)} → Holds w n (PoDiff t) other → Holds w n (Then (PoDiff t) (Hb t)) around → Made w n (Turned parent place (On w other) (On w around)) m m'
       → Made w n (Detour t) m m'
   detour_made other led =
       made_iff (λ a b l x. turned_detour k p q l (turned_by (other.only a) (led.only a) l x))

@@ -19,8 +19,8 @@ handed_by :
 handed_by f x =
     record { of = x.of; low = x.low; owned = x.owned; before = x.before; one_place = f x.of x.low x.one_place; differ = x.differ }
 
-module _ {t : Table} {w n : ℕ} {parent sync kind source place at : List ℕ} (g : Writing t w n parent sync kind source place at) where
-  pub wb0_made : {m m' : List ℕ} → Made w n (HandedOn n parent sync kind source place (On w at)) m m' → Made w n (Wb0 t) m m'
+module _ {t : Table} {w n : ℕ} {parent sync kind source place : List ℕ} {at : List (List ℕ)} (g : Writing t w n parent sync kind source place at) where
+  pub wb0_made : {m m' : List (List ℕ)} → Made w n (HandedOn n parent sync kind source place (On w at)) m m' → Made w n (Wb0 t) m m'
   wb0_made =
       made_iff
       (λ a o l x. handed_told g.known g.kinds g.sources g.places g.parents g.syncs (handed_by (λ b i. g.by_at.only a (get_or place b 0) (place_low g.known g.places b i)) x))

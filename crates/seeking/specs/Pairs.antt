@@ -2,7 +2,7 @@
 use Rattle.std.specs.Prelude.{List, ℕ, ◌≤◌, length}
 use Rattle.rows.specs.Rows.{Room}
 
-pub record SourceRoom (w n : ℕ) (parent arm source readers hb below arms conflicting shows : List ℕ) : Type 0 where
+pub record SourceRoom (w n : ℕ) (parent arm source : List ℕ) (readers hb below arms conflicting shows : List (List ℕ)) : Type 0 where
   pub parents : n ≤ length parent
   pub all_arms : n ≤ length arm
   pub sources : n ≤ length source

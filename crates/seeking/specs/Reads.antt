@@ -7,7 +7,7 @@ use Rattle.combined.specs.Columns.{Placed, WritesAt}
 use Rattle.columns.specs.Columns.{source_number, place_number, kind_number, Column, Known}
 
 -- columns and rows of n numbers
-pub record ReadRoom (w n : ℕ) (source place at hb race : List ℕ) : Type 0 where
+pub record ReadRoom (w n : ℕ) (source place : List ℕ) (at hb race : List (List ℕ)) : Type 0 where
   pub sources : n ≤ length source
   pub placed : Placed n place
   pub for_at : Room w n 33 at
@@ -15,7 +15,7 @@ pub record ReadRoom (w n : ℕ) (source place at hb race : List ℕ) : Type 0 wh
   pub for_race : Room w n n race
 
 -- they are those of the table t
-pub record Reading (t : Table) (w n : ℕ) (kind source place at hb race : List ℕ) : Type 0 where
+pub record Reading (t : Table) (w n : ℕ) (kind source place : List ℕ) (at hb race : List (List ℕ)) : Type 0 where
   pub known : Known t n
   pub kinds : Column n (kind_number t) kind
   pub sources : Column n (source_number t) source

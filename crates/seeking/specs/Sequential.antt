@@ -1,5 +1,5 @@
 -- What the steps among SC records are made of, and room for them.
-use Rattle.std.specs.Prelude.{◌≡◌, List, ℕ, ◌+◌, ◌*◌, ◌<◌, ◌≤◌, length, get_or}
+use Rattle.std.specs.Prelude.{◌≡◌, List, ℕ, ◌+◌, ◌<◌, ◌≤◌, length, get_or}
 use Rattle.model.specs.Table.{Table, Source}
 use Rattle.model.specs.Relations.{Hb, Wb, Wb0}
 use Rattle.rows.specs.Rows.{On, Room, Holds, Outside, Made}
@@ -10,7 +10,7 @@ use Rattle.columns.specs.Columns.{parent_number, sync_number, place_number, kind
 use Rattle.columns.specs.Sequential.{Overtaken}
 
 -- wb0, whose steps stay at one place, the readers of each write, and room for wb and for what is overtaken
-pub record ClosingRoom (w n : ℕ) (place order writes readers wb0 wb over : List ℕ) : Type 0 where
+pub record ClosingRoom (w n : ℕ) (place order : List ℕ) (writes readers wb0 wb over : List (List ℕ)) : Type 0 where
   pub orders : n ≤ length order
   pub for_readers : Room w n n readers
   pub for_wb : Room w n n wb
@@ -18,13 +18,13 @@ pub record ClosingRoom (w n : ℕ) (place order writes readers wb0 wb over : Lis
   pub classes : InClasses w n 33 place writes wb0
 
 -- wb is made, and over has what each SC record (the order 4) overtakes
-pub record Closed (t : Table) (w n : ℕ) (order wb over wb' over' : List ℕ) : Type 0 where
+pub record Closed (t : Table) (w n : ℕ) (order : List ℕ) (wb over wb' over' : List (List ℕ)) : Type 0 where
   pub by_wb : Made w n (Wb t) wb wb'
-  pub rest : Outside 0 (n * w) over over'
+  pub rest : Outside 0 n over over'
   pub all : (a b : ℕ) → b < n → get_or order b 0 ≡ 4 → Overtaken t a b → On w over' a b
   pub only : (a b : ℕ) → b < n → get_or order b 0 ≡ 4 → On w over' a b → Overtaken t a b
 
-pub record TurningRoom (w n : ℕ) (parent sync place at po other around detour : List ℕ) : Type 0 where
+pub record TurningRoom (w n : ℕ) (parent sync place : List ℕ) (at po other around detour : List (List ℕ)) : Type 0 where
   pub parents : n ≤ length parent
   pub syncs : n ≤ length sync
   pub placed : Placed n place
@@ -35,7 +35,7 @@ pub record TurningRoom (w n : ℕ) (parent sync place at po other around detour 
   pub for_detour : Room w n n detour
 
 -- all that is lent; around is room for layers too
-pub record ScRoom (w n : ℕ) (parent sync place order hb writes readers wb0 wb over at po other around detour out : List ℕ) : Type 0 where
+pub record ScRoom (w n : ℕ) (parent sync place order : List ℕ) (hb writes readers wb0 wb over at po other around detour : List (List ℕ)) (out : List ℕ) : Type 0 where
   pub turning : TurningRoom w n parent sync place at po other around detour
   pub orders : n ≤ length order
   pub for_hb : Room w n n hb
@@ -48,7 +48,7 @@ pub record ScRoom (w n : ℕ) (parent sync place order hb writes readers wb0 wb 
   pub for_out : OutRoom n out
 
 -- columns and rows of the table t
-pub record Sequenced (t : Table) (w n : ℕ) (parent sync place order hb writes readers wb0 : List ℕ) : Type 0 where
+pub record Sequenced (t : Table) (w n : ℕ) (parent sync place order : List ℕ) (hb writes readers wb0 : List (List ℕ)) : Type 0 where
   pub known : Known t n
   pub parents : Column n (parent_number t) parent
   pub syncs : Column n (sync_number t) sync

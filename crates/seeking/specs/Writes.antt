@@ -6,7 +6,7 @@ use Rattle.combined.specs.Columns.{WritesAt}
 use Rattle.columns.specs.Columns.{parent_number, source_number, sync_number, place_number, kind_number, Column, Known}
 
 -- columns and rows of the table t
-pub record Writing (t : Table) (w n : ℕ) (parent sync kind source place at : List ℕ) : Type 0 where
+pub record Writing (t : Table) (w n : ℕ) (parent sync kind source place : List ℕ) (at : List (List ℕ)) : Type 0 where
   pub known : Known t n
   pub parents : Column n (parent_number t) parent
   pub syncs : Column n (sync_number t) sync

@@ -11,40 +11,37 @@ ghost use Rattle.cycle.specs.Rounds.{GoesBack, Lends};
 ghost use Rattle.columns.specs.Columns.{Known};
 ghost use Rattle.seeking.specs.Writes.{Writing};
 
+use columns::Fields;
 use combined::writes::handed_on;
 use cycle::least_cycle;
 use findings::Found;
 
 // wb0. `owners` is room to work in.
-pub fn lay_writes(
-    parent: &[u8],
-    sync: &[u8],
-    kind: &[u8],
-    source: &[u8],
-    place: &[u8],
-    at: &[u64],
-    owners: &mut [u64],
-    steps: &mut [u64],
-    w: usize,
+pub fn lay_writes<const W: usize>(
+    of: &Fields,
+    at: &[[u64; W]],
+    owners: &mut [[u64; W]],
+    steps: &mut [[u64; W]],
     n: usize,
 )
-    requires { HandingRoom w n parent.now sync.now kind.now source.now place.now at.now owners.old steps.old }
-    ensures { (t : Table) → Writing t w n parent.now sync.now kind.now source.now place.now at.now → Made w n (Wb0 t) steps.old steps.new }
+    requires { HandingRoom W n of.now.parent of.now.sync of.now.kind of.now.source of.now.place at.now owners.old steps.old }
+    ensures { (t : Table) → Writing t W n of.now.parent of.now.sync of.now.kind of.now.source of.now.place at.now → Made W n (Wb0 t) steps.old steps.new }
 {
-    handed_on(parent, sync, kind, source, place, at, owners, steps, w, n);
+    handed_on(
+        &of.parent, &of.sync, &of.kind, &of.source, &of.place, at, owners, steps, n,
+    );
 }
 
 // A1: the least cycle of wb0, at the front of `out`. `back` says whether one of its steps goes back in the table. `layers` is room to work in.
-pub fn find_write_cycle(
-    steps: &[u64],
+pub fn find_write_cycle<const W: usize>(
+    steps: &[[u64; W]],
     back: bool,
-    layers: &mut [u64],
+    layers: &mut [[u64; W]],
     out: &mut [u8],
-    w: usize,
     n: usize,
 ) -> Found
-    requires { Lends w n steps.now layers.old out.old × Says back (GoesBack w n steps.now) }
-    ensures { (t : Table) → Known t n → Holds w n (Wb0 t) steps.now → FindsIn (Shows t A1) out.old out.new result }
+    requires { Lends W n steps.now layers.old out.old × Says back (GoesBack W n steps.now) }
+    ensures { (t : Table) → Known t n → Holds W n (Wb0 t) steps.now → FindsIn (Shows t A1) out.old out.new result }
 {
-    least_cycle(steps, back, w, n, layers, out)
+    least_cycle(steps, back, n, layers, out)
 }

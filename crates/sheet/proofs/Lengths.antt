@@ -1,4 +1,6 @@
 -- How long the text of a batch's figures can be: no number of it has more than five digits, and no line more than 21 bytes.
+use Rattle.refusals.specs.declared.Refusal.{Refusal}
+use Rattle.std.specs.Prelude.{Ok, Result}
 use mathlib.Core.Path.{◌≡◌, refl, ap}
 use mathlib.Core.Bool.{Bool, true, false, cond}
 use mathlib.Core.List.{List, [], ◌∷◌, ◌++◌}
@@ -15,8 +17,6 @@ use Rattle.batches.specs.Batch.{End, cleanly, refused}
 use Rattle.batches.specs.Answers.{Each, none_left, and_then, AnswersOf}
 use Rattle.batches.proofs.Whole.{end_small}
 use Rattle.batches.proofs.Reading.{few_tables}
-use Rattle.table.specs.declared.Tested.{Tested}
-use Rattle.table.specs.declared.Tested.TheVariants as tested
 use Rattle.table.specs.Events.{count_of}
 use Rattle.table.specs.Test.{TestAnswer, wrong_length, records, RecordsAnswer, sound}
 use Rattle.table.proofs.Front.{right_length}
@@ -26,7 +26,7 @@ use Rattle.phrases.proofs.Lengths.{decimal_3, decimal_5, line_length, refused_sh
 use Rattle.tally.specs.declared.Figures.{Figures}
 use Rattle.tally.specs.Answer.{Answer, AnswerOf, by_test, by_judging}
 use Rattle.tally.specs.Figures as tally
-use Rattle.tally.proofs.Laws.{count_within, counts_within, larger_within}
+use Rattle.tally.proofs.Laws.{count_within, counts_within}
 use Rattle.sheet.specs.Sheet.{tables_word, consistent_word, inconsistent_word, undefined_word, largest_word, refused_line, found_line, counts_text, verdicts_text, figures_text, sheet_text}
 use Rattle.sheet.specs.Answer.{longest_sheet}
 
@@ -139,14 +139,14 @@ records_few : {b : List ℕ} {x : Answer} → AnswerOf b x → tally.records x �
 records_few (by_test _) = omega arith
 records_few {b} (by_judging test _) = go test refl
   where
-    go : {a : Tested} {n : ℕ} → TestAnswer b a → a ≡ tested.Sound n → n ≤ limit
+    go : {a : Result ℕ Refusal} {n : ℕ} → TestAnswer b a → a ≡ Ok n → n ≤ limit
     go (wrong_length _ _) e = absurd (let z : ◌≡◌ {A = ℕ} 0 1 = cc in omega arith)
     go (records ok (RecordsAnswer.refused _)) e = absurd (let z : ◌≡◌ {A = ℕ} 0 1 = cc in omega arith)
     go {n = n} (records ok (sound _)) e = let same : count_of b ≡ n = cc in omega (arith, (right_length (length b) ok).within)
 
 largest_few : {tables : List (List ℕ)} {answers : List Answer} → Each AnswerOf tables answers → tally.largest_of answers ≤ limit
 largest_few none_left = omega arith
-largest_few (and_then {answer = x} {answers = l} p rest) = larger_within limit (tally.records x) (tally.largest_of l) (records_few p) (largest_few rest)
+largest_few (and_then p rest) = omega (arith, records_few p, largest_few rest)
 
 as_many : {tables : List (List ℕ)} {answers : List Answer} → Each AnswerOf tables answers → length tables ≡ length answers
 as_many none_left = refl

@@ -4,9 +4,9 @@ use mathlib.Core.List.{List}
 use Prim.Native.Nat.{ℕ, ◌≤◌}
 use native.Mathlib.Omega.{arith}
 use lib.ListN.{length}
+use Rattle.std.proofs.Common.{Err}
 use Rattle.refusals.specs.declared.Refusal.{Refusal}
 use Rattle.batches.specs.Batch.{end_of}
-use Rattle.phrases.specs.declared.Wrote.TheVariants.{Refused}
 use Rattle.phrases.specs.Room.{Room}
 use Rattle.phrases.specs.Handed.{Writes}
 use Rattle.tally.specs.declared.Figures.{Figures}
@@ -29,5 +29,5 @@ module _ {b : List ℕ} (out : List ℕ) (room : longest_sheet ≤ length out) {
   sheet_room = omega (arith, ap length (text is), sheet_short is.of)
 
 -- an output of that length is never refused
-pub never_short : {A : Type 0} {b before after : List ℕ} {r : Refusal} → longest_sheet ≤ length before → WriteFigures b before after (Refused r) → A
+pub never_short : {A : Type 0} {b before after : List ℕ} {r : Refusal} → longest_sheet ≤ length before → WriteFigures b before after (Err r) → A
 never_short room (Writes.no_room (with_figures p) h _ _) = absurd (omega (arith, sheet_short p))

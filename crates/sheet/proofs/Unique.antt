@@ -3,7 +3,8 @@ use mathlib.Core.Path.{◌≡◌, ap₂}
 use mathlib.Core.List.{List}
 use Prim.Native.Nat.{ℕ}
 use Rattle.batches.proofs.Answering.{answers_one}
-use Rattle.phrases.specs.declared.Wrote.{Wrote}
+use Rattle.std.proofs.Common.{Result}
+use Rattle.refusals.specs.declared.Refusal.{Refusal}
 use Rattle.phrases.proofs.Handing.{OneResult, writes_one}
 use Rattle.tally.specs.Answer.{Answer, AnswerOf}
 use Rattle.tally.specs.Figures.{figures_of}
@@ -17,5 +18,5 @@ module _ {b : List ℕ} where
       let same = answers_one AnswerOf answer_one p q in
       ap₂ (λ (l : List Answer). sheet_text (figures_of l)) same.answers same.ending
 
-  pub write_one : {before after after' : List ℕ} {x y : Wrote} → WriteFigures b before after x → WriteFigures b before after' y → OneResult x y after after'
+  pub write_one : {before after after' : List ℕ} {x y : Result ℕ Refusal} → WriteFigures b before after x → WriteFigures b before after' y → OneResult x y after after'
   write_one = writes_one (SheetOf b) sheet_one

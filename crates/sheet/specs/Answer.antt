@@ -1,9 +1,9 @@
 -- The text of a batch's figures, and what writing it into a lent buffer gives.
-use Rattle.std.specs.Prelude.{List, ℕ, ◌+◌, ◌*◌, length}
+use Rattle.std.specs.Prelude.{List, ℕ, Result, ◌+◌, ◌*◌, length}
+use Rattle.refusals.specs.declared.Refusal.{Refusal}
 use Rattle.findings.specs.Family.{all_in_order}
 use Rattle.batches.specs.Batch.{End}
 use Rattle.batches.specs.Answers.{AnswersOf}
-use Rattle.phrases.specs.declared.Wrote.{Wrote}
 use Rattle.phrases.specs.Handed.{Writes}
 use Rattle.tally.specs.Answer.{Answer, AnswerOf}
 use Rattle.tally.specs.Figures.{numbers, figures_of}
@@ -17,5 +17,5 @@ pub data SheetOf (b : List ℕ) : List ℕ → Type 0 where
 abbrev pub longest_sheet : ℕ
 longest_sheet = 21 * (6 + length numbers + length all_in_order)
 
-abbrev pub WriteFigures : List ℕ → List ℕ → List ℕ → Wrote → Type 0
+abbrev pub WriteFigures : List ℕ → List ℕ → List ℕ → Result ℕ Refusal → Type 0
 WriteFigures b = Writes (SheetOf b)

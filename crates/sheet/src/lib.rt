@@ -1,7 +1,7 @@
 // Monday's figures as text, line by line.
 #![tactic(auto)]
 
-ghost use Rattle.std.specs.Prelude.{◌++◌, ◌≤◌, length, take};
+ghost use Rattle.std.specs.Prelude.{◌++◌, ◌≤◌, length};
 ghost use Rattle.findings.specs.Family.{all_in_order, name_of};
 ghost use Rattle.batches.specs.Batch.{refused, end_of};
 ghost use Rattle.text.specs.Text.{Written, each, spaced};
@@ -12,12 +12,11 @@ ghost use Rattle.tally.specs.Figures.{numbers};
 ghost use Rattle.sheet.specs.Sheet.{refused_line, found_line, counts_text, verdicts_text, figures_text, sheet_text};
 ghost use Rattle.sheet.specs.Answer.{SheetOf, longest_sheet, WriteFigures};
 
-use batches::Ending;
 use findings::Finding;
 use monday::{Monday, figures_of};
-use phrases::{Wrote, hand_over, number_line, put_refused};
-use refusals::Told;
-use tally::{Figures, NUMBERS};
+use phrases::{hand_over, number_line, put_refused};
+use refusals::{Refusal, Told};
+use tally::{EACH_NUMBER, Figures, NUMBERS};
 use text::{put, put_spaced};
 
 // Room for the longest text: `longest_sheet` of the definitions.
@@ -41,21 +40,11 @@ fn refused_line(out: &mut [u8], at: usize, number: usize, count: usize) -> usize
     put(out, rest, b"\n")
 }
 
-// The name is the first bytes of two.
-fn front_line(out: &mut [u8], at: usize, bytes: [u8; 2], length: usize, count: usize) -> usize
-    requires { (length ≤ 2) × Room out.old at (line (take length bytes) (spaced count)) }
-    ensures { Written out.old at (line (take length bytes) (spaced count)) out.new result }
-{
-    number_line(out, at, &bytes[..length], count)
-}
-
 fn found_line(out: &mut [u8], at: usize, finding: Finding, count: usize) -> usize
     requires { Room out.old at (line (name_of finding) (spaced count)) }
     ensures { Written out.old at (line (name_of finding) (spaced count)) out.new result }
 {
-    let name = finding.name();
-    let bytes = name.bytes;
-    front_line(out, at, bytes, name.length, count)
+    number_line(out, at, finding.name(), count)
 }
 
 // A line for each number.
@@ -64,8 +53,8 @@ fn refused_lines(out: &mut [u8], at: usize, counts: [usize; NUMBERS]) -> usize
     ensures { Written out.old at (each (refused_line counts) numbers) out.new result }
 {
     let mut next = at;
-    for place in 0..NUMBERS {
-        next = refused_line(out, next, place + 1, counts[place]);
+    for (place, number) in EACH_NUMBER.iter().enumerate() {
+        next = refused_line(out, next, *number, counts[place]);
     }
     next
 }
@@ -76,8 +65,8 @@ fn found_lines(out: &mut [u8], at: usize, counts: [usize; Finding::COUNT]) -> us
     ensures { Written out.old at (each (found_line counts) all_in_order) out.new result }
 {
     let mut next = at;
-    for place in 0..Finding::COUNT {
-        next = found_line(out, next, Finding::at(place), counts[place]);
+    for (place, finding) in Finding::IN_ORDER.iter().enumerate() {
+        next = found_line(out, next, *finding, counts[place]);
     }
     next
 }
@@ -87,11 +76,9 @@ fn put_counts(out: &mut [u8], at: usize, figures: Figures) -> usize
     requires { Room out.old at (counts_text figures) }
     ensures { Written out.old at (counts_text figures) out.new result }
 {
-    let refused = figures.refused;
-    let found = figures.found;
     let first = number_line(out, at, b"tables", figures.tables);
-    let second = refused_lines(out, first, refused);
-    found_lines(out, second, found)
+    let second = refused_lines(out, first, figures.refused);
+    found_lines(out, second, figures.found)
 }
 
 fn put_verdicts(out: &mut [u8], at: usize, figures: Figures) -> usize
@@ -124,13 +111,13 @@ fn put_early(out: &mut [u8], figures: Figures, told: Told) -> usize
     put_refused(out, last, told)
 }
 
-fn put_sheet(out: &mut [u8], figures: Figures, ending: Ending) -> usize
+fn put_sheet(out: &mut [u8], figures: Figures, ending: Result<(), Refusal>) -> usize
     requires { Room out.old 0 (sheet_text figures (end_of ending)) }
     ensures { Written out.old 0 (sheet_text figures (end_of ending)) out.new result }
 {
     match ending {
-        Ending::Clean => put_figures(out, figures),
-        Ending::Refused(why) => put_early(out, figures, why.told()),
+        Ok(()) => put_figures(out, figures),
+        Err(why) => put_early(out, figures, why.told()),
     }
 }
 
@@ -140,13 +127,11 @@ fn put_monday(batch: &[u8], out: &mut [u8]) -> usize
     ensures { Front (SheetOf batch.now) out.new result }
 {
     let monday = figures_of(batch);
-    let figures = monday.figures;
-    let ending = monday.ending;
-    put_sheet(out, figures, ending)
+    put_sheet(out, monday.figures, monday.ending)
 }
 
 // Writes Monday's figures over a batch as text.
-pub fn write_figures(batch: &[u8], out: &mut [u8]) -> Wrote
+pub fn write_figures(batch: &[u8], out: &mut [u8]) -> Result<usize, Refusal>
     ensures { WriteFigures batch.now out.old out.new result }
 {
     let mut text = [0u8; SHEET];

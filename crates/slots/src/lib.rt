@@ -9,10 +9,11 @@ ghost use Rattle.record.specs.Form.{record_size, decode, part, encode, overwritt
 use events::Record;
 pub use parts::part_at;
 use record::places::SIZE;
-use record::{Decoded, bytes_of, read_part};
+use record::{bytes_of, read_part};
+use refusals::Fault;
 
 // Record n of a table.
-pub fn read_at(table: &[u8], n: usize) -> Decoded
+pub fn read_at(table: &[u8], n: usize) -> Result<Record, Fault>
     requires { record_size * n + record_size ≤ length table.now }
     ensures { result ≡ decode (part table.now n) }
 {

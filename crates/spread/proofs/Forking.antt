@@ -5,12 +5,13 @@ use mathlib.Core.Logic.{◌⊎◌, inl, inr, ⊎_elim}
 use Prim.Native.Nat.{ℕ, ◌+◌, ◌≤◌, ◌<◌}
 use native.Mathlib.Omega.{arith}
 use native.Mathlib.Decide.{ℕ_discrete}
-use lib.ListN.{length, get_or, replicate}
+use lib.ListN.{get_or}
 use Rattle.laws.specs.Steps.{Rel}
 use Rattle.laws.proofs.Closure.{tri}
-use Rattle.rows.specs.Rows.{On, Holds, MadeRow}
+use Rattle.rows.specs.declared.set.Set.{Set}
+use Rattle.rows.specs.Sets.{In, Is}
 use Rattle.rows.specs.Steps.{Leads}
-use Rattle.rows.proofs.Rows.{holds_none, holds_more, holds_iff, made_row_iff, holds_zeros}
+use Rattle.rows.proofs.Sets.{is_iff}
 use Rattle.rows.proofs.Steps.{star_rises}
 use Rattle.spread.specs.Apart.{Under, UnderArms, Beside, Apart, Forks}
 
@@ -60,44 +61,41 @@ module _ {column : List ℕ} {b : ℕ} where
           inl (record { from = f.from; first = f.first; second = f.second; apart = f.apart; low = omega (arith, f.low); to_first = f.to_first; to_second = f.to_second })
 
 -- the numbers that the column leads from to numbers below b, to one of them each
-pub record SeenBelow (column : List ℕ) (b : ℕ) (seen : List ℕ) : Type 0 where
-  pub size : length seen ≡ 4
-  pub holds : Holds 4 1 (λ v _. LedBelow column b v) seen
+pub record SeenBelow (column : List ℕ) (b : ℕ) (seen : Set 4) : Type 0 where
+  pub has : Is seen (LedBelow column b)
   pub single : ¬ Forks b column
 
 module _ {column : List ℕ} where
-  pub seen_none : SeenBelow column 0 (replicate 4 0)
-  seen_none = record {
-    size = refl;
-    holds = holds_iff (λ a b _ x. absurd x) (λ a b _ x. absurd (omega (arith, x.low))) (holds_zeros 4 1 4);
+  pub seen_none : {seen : Set 4} → Is seen (λ _. ⊥) → SeenBelow column 0 seen
+  seen_none i = record {
+    has = is_iff (λ v x. absurd x) (λ v x. absurd (omega (arith, x.low))) i;
     single = λ f. omega (arith, f.low);
   }
 
-  module _ {b : ℕ} {seen : List ℕ} (s : SeenBelow column b seen) where
+  module _ {b : ℕ} {seen : Set 4} (s : SeenBelow column b seen) where
     -- b leads to a number that was not seen
     pub seen_more :
-        {seen' : List ℕ} → get_or column b 0 < b → ¬ On 4 seen (get_or column b 0) 0
-        → MadeRow 4 0 (λ x. On 4 seen x 0 ⊎ (x ≡ get_or column b 0)) seen seen' → SeenBelow column (b + 1) seen'
-    seen_more l new r = record {
-      size = omega (arith, s.size, r.rest.size);
-      holds = holds_more holds_none
-          (made_row_iff (λ a. ⊎_elim (λ o. led_more (s.holds.only a 0 (omega arith) o)) (λ e. record { to = b; low = omega arith; is = record { is = sym e; falls = omega (arith, e, l) } }))
-          (λ a x. ⊎_elim (λ y. inl (s.holds.all a 0 (omega arith) y)) (λ y. inr (sym y.is)) (more_led x)) r);
-      single = λ f. ⊎_elim s.single (λ z. new (s.holds.all (get_or column b 0) 0 (omega arith) z.1)) (more_forks f);
+        {seen' : Set 4} → get_or column b 0 < b → ¬ In seen (get_or column b 0) → Is seen' (λ x. In seen x ⊎ (x ≡ get_or column b 0))
+        → SeenBelow column (b + 1) seen'
+    seen_more l new i = record {
+      has =
+          is_iff
+          (λ v. ⊎_elim (λ x. led_more (s.has.only v x)) (λ e. record { to = b; low = omega arith; is = record { is = sym e; falls = omega (arith, e, l) } }))
+          (λ v x. ⊎_elim (λ y. inl (s.has.all v y)) (λ y. inr (sym y.is)) (more_led x)) i;
+      single = λ f. ⊎_elim s.single (λ z. new (s.has.all (get_or column b 0) z.1)) (more_forks f);
     }
 
     -- it leads to none
     pub seen_same : b ≤ get_or column b 0 → SeenBelow column (b + 1) seen
     seen_same l = record {
-      size = s.size;
-      holds = holds_iff (λ a b _. led_more) (λ a b _ x. ⊎_elim (λ y. y) (λ y. absurd (omega (arith, l, y.is, y.falls))) (more_led x)) s.holds;
+      has = is_iff (λ v. led_more) (λ v x. ⊎_elim (λ y. y) (λ y. absurd (omega (arith, l, y.is, y.falls))) (more_led x)) s.has;
       single = λ f. ⊎_elim s.single (λ z. omega (arith, l, z.0)) (more_forks f);
     }
 
     -- to one that was seen
-    pub seen_forks : {n : ℕ} → b < n → get_or column b 0 < b → On 4 seen (get_or column b 0) 0 → Forks n column
-    seen_forks {n} low l o =
-        let x = s.holds.only (get_or column b 0) 0 (omega arith) o in
+    pub seen_forks : {n : ℕ} → b < n → get_or column b 0 < b → In seen (get_or column b 0) → Forks n column
+    seen_forks {n} low l i =
+        let x = s.has.only (get_or column b 0) i in
         record { from = get_or column b 0; first = x.to; second = b; apart = x.low; low = low; to_first = x.is; to_second = record { is = refl; falls = l } }
 
     -- none below n was left out

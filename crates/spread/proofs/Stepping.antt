@@ -1,7 +1,7 @@
 -- Rows of one or more steps: what steps to b, and what came before that.
 use mathlib.Core.List.{List}
 use mathlib.Core.Logic.{◌⊎◌, inl, inr, ⊎_map, ⊎_elim}
-use Prim.Native.Nat.{ℕ, ◌*◌, ◌<◌}
+use Prim.Native.Nat.{ℕ, ◌<◌}
 use Rattle.laws.specs.Steps.{Rel, Plus, Plus.one, Plus.more}
 use Rattle.rows.specs.declared.set.Set.{Set}
 use Rattle.rows.specs.Sets.{In, Is}
@@ -29,7 +29,7 @@ module _ {c d : List ℕ} {a b : ℕ} where
 
 -- a row that takes in P and then Q
 pub both_taken_in :
-    {w b : ℕ} {P Q : ℕ → Type 0} {m m₁ m₂ : List ℕ} → MadeRow w b (λ a. On w m a b ⊎ P a) m m₁ → MadeRow w b (λ a. On w m₁ a b ⊎ Q a) m₁ m₂
+    {w b : ℕ} {P Q : ℕ → Type 0} {m m₁ m₂ : List (List ℕ)} → MadeRow w b (λ a. On w m a b ⊎ P a) m m₁ → MadeRow w b (λ a. On w m₁ a b ⊎ Q a) m₁ m₂
     → MadeRow w b (λ a. On w m a b ⊎ (P a ⊎ Q a)) m m₂
 both_taken_in p q =
     made_row_trans p
@@ -38,10 +38,10 @@ both_taken_in p q =
 
 -- the rows below b hold the steps: row b becomes what came before the numbers that step to b, and then takes those in
 pub steps_row :
-    {w b : ℕ} {S : Rel} {r : Set} {P : ℕ → Type 0} {m m₁ m₂ : List ℕ} → ((v : ℕ) → S v b → v < b) → ((a : ℕ) → P a → S a b) → ((a : ℕ) → S a b → P a)
-    → Holds w b (Plus S) m → Is r (λ a. Then (On w m) S a b) → MadeRow w b (λ a. In r a × (a < 64 * w)) m m₁
+    {w b : ℕ} {S : Rel} {r : Set w} {P : ℕ → Type 0} {m m₁ m₂ : List (List ℕ)} → ((v : ℕ) → S v b → v < b) → ((a : ℕ) → P a → S a b) → ((a : ℕ) → S a b → P a)
+    → Holds w b (Plus S) m → Is r (λ a. Then (On w m) S a b) → MadeRow w b (In r) m m₁
     → MadeRow w b (λ a. On w m₁ a b ⊎ P a) m₁ m₂ → MadeRow w b (λ a. Plus S a b) m m₂
 steps_row rises to from h i k q =
-    let earlier = made_row_is (then_held rises h i) (λ a t. (h.all a t.mid (rises t.mid t.next) t.first).col) k in
+    let earlier = made_row_is (then_held rises h i) k in
     made_row_trans earlier
     (made_row_iff (λ a x. last_step (⊎_map (earlier.only a) (to a) x)) (λ a p. ⊎_map (earlier.all a) (from a) (by_last_step p)) q)

@@ -1,154 +1,112 @@
 // What stands under another arm of a branch: downward what stands under each number, then upward what stands beside it.
 ghost use Rattle.std.specs.Prelude.{◌+◌, ◌<◌, ◌≤◌, length};
 ghost use Rattle.rows.specs.Sets.{Is};
-ghost use Rattle.rows.specs.Rows.{On, Holds, Room, Made};
+ghost use Rattle.rows.specs.Rows.{On, Holds, Made};
 ghost use Rattle.rows.specs.Steps.{Leads, Star, Then};
 ghost use Rattle.spread.specs.Apart.{BesideBy, Under, UnderArms, Apart};
 ghost use Rattle.spread.specs.Handed.{HandedUp, UnderFrom, ArmsFrom};
 
 use rows::led::row_before;
 use rows::row::{put, row};
-use rows::set::{Set, either, without};
+use rows::set::Set;
 use rows::whole::clear;
 
 // The row that the column leads to b from, if it does, takes in the set.
-fn hand_up(column: &[u8], m: &mut [u64], w: usize, n: usize, b: usize, set: Set)
-    requires { (b < n) × (n ≤ length column.now) × Room w n n m.old }
-    ensures { Made w n (HandedUp w column.now m.old b set) m.old m.new }
+fn hand_up<const W: usize>(column: &[u8], m: &mut [[u64; W]], n: usize, b: usize, set: &Set<W>)
+    requires { (b < n) × (n ≤ length column.now) × (n ≤ length m.old) }
+    ensures { Made W n (HandedUp W column.now m.old b set.now) m.old m.new }
 {
     let v = column[b] as usize;
     if v < b {
-        let joined = either(row(m, w, v), set);
-        put(m, w, v, joined);
+        let joined = row(m, v).or(*set);
+        put(m, v, joined);
     }
 }
 
 // Row b of below is completed by what x relates to b, and handed up.
-fn down_row(
+fn down_row<const W: usize>(
     parent: &[u8],
     arm: &[u8],
-    x: &[u64],
-    below: &mut [u64],
-    arms: &mut [u64],
-    w: usize,
+    x: &[[u64; W]],
+    below: &mut [[u64; W]],
+    arms: &mut [[u64; W]],
     n: usize,
     b: usize,
 )
-    requires { (b < n) × (n ≤ length parent.now) × (n ≤ length arm.now) × Room w n n x.now × Room w n n below.old × Room w n n arms.old × Holds w n (UnderFrom n parent.now (b + 1) (On w x.now)) below.old × Holds w n (ArmsFrom n parent.now (b + 1) arm.now (On w x.now)) arms.old }
-    ensures { Made w n (UnderFrom n parent.now b (On w x.now)) below.old below.new × Made w n (ArmsFrom n parent.now b arm.now (On w x.now)) arms.old arms.new }
+    requires low { b < n }
+    requires columns { (n ≤ length parent.now) × (n ≤ length arm.now) }
+    requires rows { (n ≤ length x.now) × (n ≤ length below.old) × (n ≤ length arms.old) }
+    requires under { Holds W n (UnderFrom n parent.now (b + 1) (On W x.now)) below.old }
+    requires under_arms { Holds W n (ArmsFrom n parent.now (b + 1) arm.now (On W x.now)) arms.old }
+    ensures under { Made W n (UnderFrom n parent.now b (On W x.now)) below.old below.new }
+    ensures under_arms { Made W n (ArmsFrom n parent.now b arm.now (On W x.now)) arms.old arms.new }
 {
-    let under = either(row(below, w, b), row(x, w, b));
-    put(below, w, b, under);
-    hand_up(parent, below, w, n, b, under);
-    hand_up(arm, arms, w, n, b, under);
+    let under = row(below, b).or(row(x, b));
+    hand_up(parent, below, n, b, &under);
+    hand_up(arm, arms, n, b, &under);
+    put(below, b, under);
 }
 
 // What x relates to something at or below each number; what of that is so for an arm of each.
-fn downward(
+fn downward<const W: usize>(
     parent: &[u8],
     arm: &[u8],
-    x: &[u64],
-    below: &mut [u64],
-    arms: &mut [u64],
-    w: usize,
+    x: &[[u64; W]],
+    below: &mut [[u64; W]],
+    arms: &mut [[u64; W]],
     n: usize,
 )
-    requires { (n ≤ length parent.now) × (n ≤ length arm.now) × Room w n n x.now × Room w n n below.old × Room w n n arms.old }
-    ensures { Made w n (Under n parent.now (On w x.now)) below.old below.new × Made w n (UnderArms n parent.now arm.now (On w x.now)) arms.old arms.new }
+    requires { (W ≤ 4) × (n ≤ length parent.now) × (n ≤ length arm.now) × (n ≤ length x.now) × (n ≤ length below.old) × (n ≤ length arms.old) }
+    ensures under { Made W n (Under n parent.now (On W x.now)) below.old below.new }
+    ensures under_arms { Made W n (UnderArms n parent.now arm.now (On W x.now)) arms.old arms.new }
 {
-    if w == 1 {
-        downward_by(parent, arm, x, below, arms, 1, n);
-    } else if w == 2 {
-        downward_by(parent, arm, x, below, arms, 2, n);
-    } else {
-        downward_by(parent, arm, x, below, arms, 4, n);
-    }
-}
-
-// `downward`, where the compiler knows the width.
-fn downward_by(
-    parent: &[u8],
-    arm: &[u8],
-    x: &[u64],
-    below: &mut [u64],
-    arms: &mut [u64],
-    w: usize,
-    n: usize,
-)
-    requires { (n ≤ length parent.now) × (n ≤ length arm.now) × Room w n n x.now × Room w n n below.old × Room w n n arms.old }
-    ensures { Made w n (Under n parent.now (On w x.now)) below.old below.new × Made w n (UnderArms n parent.now arm.now (On w x.now)) arms.old arms.new }
-{
-    clear(below, w, n, n);
-    clear(arms, w, n, n);
-    for i in 0..n {
-        down_row(parent, arm, x, below, arms, w, n, n - 1 - i);
+    clear(below, n);
+    clear(arms, n);
+    for b in (0..n).rev() {
+        down_row(parent, arm, x, below, arms, n, b);
     }
 }
 
 // What stands under another arm than b.
-fn beside(arm: &[u8], below: &[u64], arms: &[u64], w: usize, n: usize, b: usize) -> Set
-    requires { (b < n) × (n ≤ length arm.now) × Room w n n below.now × Room w n n arms.now }
-    ensures { Is result (λ a. BesideBy arm.now (On w below.now) (On w arms.now) a b) }
+fn beside<const W: usize>(arm: &[u8], below: &[[u64; W]], arms: &[[u64; W]], b: usize) -> Set<W>
+    requires { (b < length arm.now) × (b < length below.now) × (b < length arms.now) }
+    ensures { Is result (λ a. BesideBy arm.now (On W below.now) (On W arms.now) a b) }
 {
-    without(row_before(arm, arms, w, n, b), row(below, w, b))
+    row_before(arm, arms, b).without(row(below, b))
 }
 
 // That, at each number or above it.
-fn upward(
+fn upward<const W: usize>(
     parent: &[u8],
     arm: &[u8],
-    below: &[u64],
-    arms: &[u64],
-    out: &mut [u64],
-    w: usize,
+    below: &[[u64; W]],
+    arms: &[[u64; W]],
+    out: &mut [[u64; W]],
     n: usize,
 )
-    requires { (n ≤ length parent.now) × (n ≤ length arm.now) × Room w n n below.now × Room w n n arms.now × Room w n n out.old }
-    ensures { Made w n (Then (BesideBy arm.now (On w below.now) (On w arms.now)) (Star (Leads parent.now))) out.old out.new }
-{
-    if w == 1 {
-        upward_by(parent, arm, below, arms, out, 1, n);
-    } else if w == 2 {
-        upward_by(parent, arm, below, arms, out, 2, n);
-    } else {
-        upward_by(parent, arm, below, arms, out, 4, n);
-    }
-}
-
-// `upward`, where the compiler knows the width.
-fn upward_by(
-    parent: &[u8],
-    arm: &[u8],
-    below: &[u64],
-    arms: &[u64],
-    out: &mut [u64],
-    w: usize,
-    n: usize,
-)
-    requires { (n ≤ length parent.now) × (n ≤ length arm.now) × Room w n n below.now × Room w n n arms.now × Room w n n out.old }
-    ensures { Made w n (Then (BesideBy arm.now (On w below.now) (On w arms.now)) (Star (Leads parent.now))) out.old out.new }
+    requires { (n ≤ length parent.now) × (n ≤ length arm.now) × (n ≤ length below.now) × (n ≤ length arms.now) × (n ≤ length out.old) }
+    ensures { Made W n (Then (BesideBy arm.now (On W below.now) (On W arms.now)) (Star (Leads parent.now))) out.old out.new }
 {
     for b in 0..n {
-        let here = beside(arm, below, arms, w, n, b);
-        let above = row_before(parent, out, w, n, b);
-        put(out, w, b, either(here, above));
+        let here = beside(arm, below, arms, b);
+        let above = row_before(parent, out, b);
+        put(out, b, here.or(above));
     }
 }
 
 // What x relates to something under another arm, of a branch at or above each number; below and arms are room to work in.
-pub fn apart(
+pub fn apart<const W: usize>(
     parent: &[u8],
     arm: &[u8],
-    x: &[u64],
-    below: &mut [u64],
-    arms: &mut [u64],
-    out: &mut [u64],
-    w: usize,
+    x: &[[u64; W]],
+    below: &mut [[u64; W]],
+    arms: &mut [[u64; W]],
+    out: &mut [[u64; W]],
     n: usize,
 )
-    requires { (n ≤ length parent.now) × (n ≤ length arm.now) × Room w n n x.now × Room w n n below.old × Room w n n arms.old × Room w n n out.old }
-    ensures { Made w n (Under n parent.now (On w x.now)) below.old below.new × Made w n (UnderArms n parent.now arm.now (On w x.now)) arms.old arms.new × Made w n (Apart n parent.now arm.now (On w x.now)) out.old out.new }
+    requires { (W ≤ 4) × (n ≤ length parent.now) × (n ≤ length arm.now) × (n ≤ length x.now) × (n ≤ length below.old) × (n ≤ length arms.old) × (n ≤ length out.old) }
+    ensures { Made W n (Under n parent.now (On W x.now)) below.old below.new × Made W n (UnderArms n parent.now arm.now (On W x.now)) arms.old arms.new × Made W n (Apart n parent.now arm.now (On W x.now)) out.old out.new }
 {
-    downward(parent, arm, x, below, arms, w, n);
-    upward(parent, arm, below, arms, out, w, n);
+    downward(parent, arm, x, below, arms, n);
+    upward(parent, arm, below, arms, out, n);
 }

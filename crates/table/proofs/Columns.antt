@@ -1,4 +1,5 @@
 -- How the columns go on to be kept when a record more stands.
+use Rattle.std.specs.Prelude.{None, Some}
 use mathlib.Core.Path.{◌≡◌, sym, subst, ap, ◌∙◌}
 use mathlib.Core.Bool.{Bool, true, ◌&&◌}
 use mathlib.Core.List.{List, [], ◌∷◌}
@@ -12,7 +13,6 @@ use lib.Seq.{get_or-set_same, get_or-set_other}
 use borrow.Author.Count.{below_more}
 use Rattle.laws.specs.Says.{Says}
 use Rattle.laws.proofs.Says.{says_yes, says_no, says_one, says_T, says_eq, says_lt, says_and, says_iff}
-use Rattle.events.specs.declared.Link.TheVariants.{Absent, To}
 use Rattle.events.specs.declared.Record.{Record}
 use Rattle.model.proofs.Fields.{absent_to, one_end}
 use Rattle.table.specs.Events.{events_of}
@@ -34,13 +34,13 @@ says_placed last older p n =
 -- ---- the last child, one number on
 
 module _ (at : ℕ → Record) (p n : ℕ) where
-  last_this : (at n).parent ≡ To p → last_child at p (n + 1) ≡ n
+  last_this : (at n).parent ≡ Some p → last_child at p (n + 1) ≡ n
   unfolding last_child
-  last_this e = rw (add-one n, says_one (says_link (at n).parent (To p)) (says_yes e))
+  last_this e = rw (add-one n, says_one (says_link (at n).parent (Some p)) (says_yes e))
 
-  last_other : ¬ ((at n).parent ≡ To p) → last_child at p (n + 1) ≡ last_child at p n
+  last_other : ¬ ((at n).parent ≡ Some p) → last_child at p (n + 1) ≡ last_child at p n
   unfolding last_child
-  last_other e = rw (add-one n, says_one (says_link (at n).parent (To p)) (says_no e))
+  last_other e = rw (add-one n, says_one (says_link (at n).parent (Some p)) (says_no e))
 
 -- ---- the columns of b, one record on
 
@@ -52,7 +52,7 @@ module _ {b : List ℕ} {n : ℕ} {last older : List ℕ} (here : Stands b n) (k
   stand_more = record { held = omega (arith, here.held); decodes = below_more (Decodes b) n kept.stand.decodes here.decodes }
 
   -- record n is a child of no record that the columns are used for
-  kept_other : ((q : ℕ) → Placed last older q n → ¬ ((at n).parent ≡ To q)) → Kept b (n + 1) last older
+  kept_other : ((q : ℕ) → Placed last older q n → ¬ ((at n).parent ≡ Some q)) → Kept b (n + 1) last older
   kept_other other = record {
     stand = stand_more;
     small = kept.small;
@@ -61,18 +61,18 @@ module _ {b : List ℕ} {n : ℕ} {last older : List ℕ} (here : Stands b n) (k
         let before = kept.chains (omega arith) q h in
         record {
           last = before.last ∙ sym (last_other at q n (other q placed));
-          before = below_more (λ m. (at m).parent ≡ To q → get_or older m 0 ≡ last_child at q m) n before.before (λ e. absurd (other q placed e));
+          before = below_more (λ m. (at m).parent ≡ Some q → get_or older m 0 ≡ last_child at q m) n before.before (λ e. absurd (other q placed e));
         };
   }
 
-  pub kept_root : (at n).parent ≡ Absent → Kept b (n + 1) last older
+  pub kept_root : (at n).parent ≡ None → Kept b (n + 1) last older
   kept_root none = kept_other (λ q placed e. absent_to none e)
 
-  pub kept_unplaced : (p : ℕ) → (at n).parent ≡ To p → ¬ Placed last older p n → Kept b (n + 1) last older
+  pub kept_unplaced : (p : ℕ) → (at n).parent ≡ Some p → ¬ Placed last older p n → Kept b (n + 1) last older
   kept_unplaced p is not_placed = kept_other (λ q placed e. not_placed (subst (λ (k : ℕ). Placed last older k n) (one_end is e) placed))
 
   -- or it is the last child of p
-  module _ (p : ℕ) (is : (at n).parent ≡ To p) (placed : Placed last older p n) where
+  module _ (p : ℕ) (is : (at n).parent ≡ Some p) (placed : Placed last older p n) where
     abbrev newer : List ℕ
     newer = set older n (get_or last p 0)
 
@@ -82,10 +82,10 @@ module _ {b : List ℕ} {n : ℕ} {last older : List ℕ} (here : Stands b n) (k
         get_or-set_other last p q n 0 e
         ∙ ((kept.chains (omega (arith, placed.room)) q h).last ∙ sym (last_other at q n (λ f. e (one_end is f))))
 
-    before_now : (q : ℕ) → q < length last → (m : ℕ) → m < n → (at m).parent ≡ To q → get_or newer m 0 ≡ last_child at q m
+    before_now : (q : ℕ) → q < length last → (m : ℕ) → m < n → (at m).parent ≡ Some q → get_or newer m 0 ≡ last_child at q m
     before_now q h m l e = get_or-set_other older n m (get_or last p 0) 0 (λ s. absurd (omega arith)) ∙ (kept.chains (omega (arith, placed.room)) q h).before m l e
 
-    before_this : (q : ℕ) → (at n).parent ≡ To q → get_or newer n 0 ≡ last_child at q n
+    before_this : (q : ℕ) → (at n).parent ≡ Some q → get_or newer n 0 ≡ last_child at q n
     before_this q e =
         get_or-set_same older n (get_or last p 0) 0 placed.room
         ∙ ((kept.chains (omega (arith, placed.room)) p placed.place).last ∙ ap (λ (k : ℕ). last_child at k n) (one_end e is))
@@ -98,7 +98,7 @@ module _ {b : List ℕ} {n : ℕ} {last older : List ℕ} (here : Stands b n) (k
           let inside : q < length last = omega (arith, length-set last p n) in
           record {
             last = last_now q inside (ℕ_discrete q p);
-            before = below_more (λ m. (at m).parent ≡ To q → get_or newer m 0 ≡ last_child at q m) n (before_now q inside) (before_this q);
+            before = below_more (λ m. (at m).parent ≡ Some q → get_or newer m 0 ≡ last_child at q m) n (before_now q inside) (before_this q);
           };
     }
 

@@ -1,4 +1,5 @@
 -- The edges that documents 01 and 02 name, as facts of the definitions.
+use Rattle.std.specs.Prelude.{None, Some, Err, Ok}
 use mathlib.Core.Path.{◌≡◌, refl}
 use mathlib.Core.List.{[], ◌∷◌}
 use Prim.Native.Nat.{ℕ}
@@ -6,10 +7,8 @@ use lib.Dec.{T}
 use Rattle.events.specs.declared.Order.TheVariants.{Rel}
 use Rattle.events.specs.declared.Value.TheVariants.{Known}
 use Rattle.events.specs.declared.Event.TheVariants.{Store}
-use Rattle.events.specs.declared.Link.TheVariants.{Absent, To}
 use Rattle.events.specs.declared.Record.{Record}
 use Rattle.refusals.specs.declared.Fault.TheVariants.{Thread, Location}
-use Rattle.record.specs.declared.Decoded.TheVariants.{Good, Bad}
 use Rattle.record.specs.Form.{in_row, order_from, link_from, value_from, event_from, decided_by, decode, encode}
 use Rattle.model.specs.Table.{listed}
 use Rattle.model.specs.Examples.{E2}
@@ -31,17 +30,17 @@ bytes_17 x = x
 -- "thread 15 and location 31 pass test 5, 16 and 32 don't"
 abbrev store : ℕ → ℕ → Record
 store thread location =
-    record { thread = thread; parent = To 0; source = Absent; event = Store Rel location (Known 1) }
+    record { thread = thread; parent = Some 0; source = None; event = Store Rel location (Known 1) }
 
-pub thread_15_location_31 : decode (encode (store 15 31)) ≡ Good (store 15 31)
+pub thread_15_location_31 : decode (encode (store 15 31)) ≡ Ok (store 15 31)
 unfolding in_row order_from link_from value_from event_from decided_by decode encode
 thread_15_location_31 = refl
 
-pub thread_16 : decode (encode (store 16 31)) ≡ Bad Thread
+pub thread_16 : decode (encode (store 16 31)) ≡ Err Thread
 unfolding in_row order_from link_from value_from event_from decided_by decode encode
 thread_16 = refl
 
-pub location_32 : decode (encode (store 15 32)) ≡ Bad Location
+pub location_32 : decode (encode (store 15 32)) ≡ Err Location
 unfolding in_row order_from link_from value_from event_from decided_by decode encode
 location_32 = refl
 

@@ -1,4 +1,5 @@
 -- What the code computes for a record is document 01's answer: exact, whichever list of bytes the record is said to stand in.
+use Rattle.std.specs.Prelude.{Err, Ok, Result}
 use mathlib.Core.Path.{◌≡◌, refl, sym, subst, ap, ◌∙◌}
 use mathlib.Core.Bool.{Bool, true, false}
 use mathlib.Core.List.{List}
@@ -8,13 +9,10 @@ use Rattle.laws.specs.Says.{Says}
 use Rattle.events.specs.declared.Record.{Record}
 use Rattle.refusals.specs.declared.Fault.{Fault}
 use Rattle.refusals.specs.Numbers.{fault_byte}
-use Rattle.record.specs.declared.Decoded.{Decoded}
-use Rattle.record.specs.declared.Decoded.TheVariants.{Good, Bad}
 use Rattle.record.specs.Form.{decode, part}
 use Rattle.record.specs.Refused.{ReadAs}
 use Rattle.record.proofs.Exact as bytes
 use Rattle.model.specs.WellFormed.{Refused6, Refused7, Refused8}
-use Rattle.table.specs.declared.Checked.TheVariants.{Fine, Faulty}
 use Rattle.table.specs.Events.{record_of, events_of}
 use Rattle.table.specs.Test.{Decodes, FaultAt, by_bytes, by_6, by_7, by_8, Passes, CheckAnswer, passes, faulty}
 use Rattle.table.specs.Computed.{judged, checked}
@@ -22,17 +20,17 @@ use Rattle.table.proofs.Unique.{check_one}
 use Rattle.table.proofs.Telling.{says_6, says_7, says_8}
 
 -- what is read as a record is the record of its number
-pub at_decoded : (b : List ℕ) (n : ℕ) {r : Record} → decode (part b n) ≡ Good r → (events_of b).at n ≡ r
+pub at_decoded : (b : List ℕ) (n : ℕ) {r : Record} → decode (part b n) ≡ Ok r → (events_of b).at n ≡ r
 unfolding events_of
 at_decoded b n e = ap record_of e
 
-pub decoded_at : (b : List ℕ) (n : ℕ) → Decodes b n → decode (part b n) ≡ Good ((events_of b).at n)
-decoded_at b n d = d.read ∙ ap Good (sym (at_decoded b n d.read))
+pub decoded_at : (b : List ℕ) (n : ℕ) → Decodes b n → decode (part b n) ≡ Ok ((events_of b).at n)
+decoded_at b n d = d.read ∙ ap Ok (sym (at_decoded b n d.read))
 
-pub passes_of : {b : List ℕ} {n : ℕ} → CheckAnswer b n Fine → Passes b n
+pub passes_of : {b : List ℕ} {n : ℕ} → CheckAnswer b n (Ok tt) → Passes b n
 passes_of (passes p) = p
 
-pub fault_of : {b : List ℕ} {n : ℕ} {f : Fault} → CheckAnswer b n (Faulty f) → FaultAt b n f
+pub fault_of : {b : List ℕ} {n : ℕ} {f : Fault} → CheckAnswer b n (Err f) → FaultAt b n f
 fault_of (faulty x) = x
 
 -- the byte that is named is one of the record's sixteen
@@ -66,9 +64,9 @@ module _ (b b' : List ℕ) (n : ℕ) (alike : (m : ℕ) → m < n → part b m �
   pub check_exact : CheckAnswer b' n (checked (events_of b).at n (decode (part b' n)))
   check_exact = go (decode (part b' n)) refl
     where
-      go : (d : Decoded) → decode (part b' n) ≡ d → CheckAnswer b' n (checked (events_of b).at n d)
-      go (Bad f) e = faulty (by_bytes e)
-      go (Good r) e =
+      go : (d : Result Record Fault) → decode (part b' n) ≡ d → CheckAnswer b' n (checked (events_of b).at n d)
+      go (Err f) e = faulty (by_bytes e)
+      go (Ok r) e =
           let t = events_of b' in
           rw (← at_decoded b' n e)
           (judged_exact b' n _ _ _ (says_6 t n (events_of b).at before) (says_7 t n (events_of b).at before) (says_8 t n (events_of b).at before) (record { value = r; read = e }))

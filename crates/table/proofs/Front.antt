@@ -1,4 +1,6 @@
 -- The first records of a list of bytes, as a table of their own: what the test of each says there.
+use Rattle.std.specs.Prelude.{Result}
+use Rattle.refusals.specs.declared.Refusal.{Refusal}
 use mathlib.Core.Path.{◌≡◌, sym}
 use mathlib.Core.List.{List}
 use Prim.Native.Nat.{ℕ, ◌*◌, ◌%◌, ◌<◌, ◌≤◌}
@@ -12,7 +14,6 @@ use Rattle.record.specs.Form.{decode, part}
 use Rattle.record.proofs.Parts.{part_take}
 use Rattle.table.specs.Events.{count_of, events_of}
 use Rattle.limits.specs.Limit.{limit}
-use Rattle.table.specs.declared.Tested.{Tested}
 use Rattle.table.specs.Test.{length_ok, Passes, CheckAnswer, RecordsAnswer, TestAnswer, records}
 use Rattle.table.specs.Computed.{checked}
 use Rattle.table.specs.Standing.{Stands, AllStand}
@@ -65,5 +66,5 @@ front_whole b h =
     take_all (16 * count_of b) b (omega arith)
 
 -- so the test of all its records is the test of the table
-pub records_test : (b : List ℕ) {a : Tested} → T (length_ok (length b)) → RecordsAnswer (take (16 * count_of b) b) a → TestAnswer b a
+pub records_test : (b : List ℕ) {a : Result ℕ Refusal} → T (length_ok (length b)) → RecordsAnswer (take (16 * count_of b) b) a → TestAnswer b a
 records_test b right x = records right (rw (front_whole b right) at x)

@@ -1,4 +1,5 @@
 -- The test of a record that is to stand after the first n is its test in the table with it appended.
+use Rattle.std.specs.Prelude.{Ok}
 use mathlib.Core.Path.{◌≡◌, sym, subst, ◌∙◌}
 use mathlib.Core.List.{List, ◌++◌}
 use Prim.Native.Nat.{ℕ, ◌+◌, ◌*◌, ◌<◌, ◌≤◌}
@@ -9,7 +10,6 @@ use lib.Seq.{length-take-le}
 use Rattle.events.specs.declared.Record.{Record}
 use Rattle.record.specs.Form.{decode, encode, part}
 use Rattle.record.proofs.Parts.{encode_length, part_append, part_last}
-use Rattle.table.specs.declared.Tested.TheVariants.{Sound}
 use Rattle.table.specs.Events.{count_of, events_of}
 use Rattle.table.specs.Test.{Passes, CheckAnswer, RecordsAnswer, sound}
 use Rattle.table.specs.Computed.{checked}
@@ -36,9 +36,9 @@ module _ (b : List ℕ) (n : ℕ) (r : Record) (held : 16 * n ≤ length b) wher
   new_exact = rw new_part at (check_exact b (front ++ encode r) n (λ m h. front_part b n held m h ∙ sym (front_kept m h)))
 
   -- with a record that passes, all pass (for request W12: a good append leaves a sound table)
-  pub new_sound : ((m : ℕ) → m < n → Passes front m) → Passes (front ++ encode r) n → RecordsAnswer (front ++ encode r) (Sound (n + 1))
+  pub new_sound : ((m : ℕ) → m < n → Passes front m) → Passes (front ++ encode r) n → RecordsAnswer (front ++ encode r) (Ok (n + 1))
   new_sound passed last =
-      subst (λ (k : ℕ). RecordsAnswer (front ++ encode r) (Sound k)) count (sound (λ m h. go m (dec_lt m n) (omega (arith, count))))
+      subst (λ (k : ℕ). RecordsAnswer (front ++ encode r) (Ok k)) count (sound (λ m h. go m (dec_lt m n) (omega (arith, count))))
     where
       count : count_of (front ++ encode r) ≡ n + 1
       count = omega (arith, length-append front (encode r), front_length, encode_length r)

@@ -1,4 +1,5 @@
 -- What a search among a record's siblings finds, from the youngest on, is what a search among all earlier records finds.
+use Rattle.std.specs.Prelude.{Some}
 use mathlib.Core.Path.{◌≡◌, refl, sym, subst, ap, ◌∙◌}
 use mathlib.Core.Bool.{Bool, true, false, ◌||◌}
 use mathlib.Core.List.{List}
@@ -7,7 +8,6 @@ use native.Mathlib.Omega.{arith}
 use lib.ListN.{get_or}
 use Rattle.laws.specs.Says.{Says, any_below}
 use Rattle.laws.proofs.Says.{says_yes, says_no, says_one}
-use Rattle.events.specs.declared.Link.TheVariants.{To}
 use Rattle.events.specs.declared.Record.{Record}
 use Rattle.record.specs.Form.{pick}
 use Rattle.table.specs.Computed.{same_link, twinned, twin_fault}
@@ -21,24 +21,24 @@ or_no {a = false} e h = h ∙ e
 
 -- ---- a new record with the parent p
 
-module _ (at : ℕ → Record) (p : ℕ) (new : Record) (child : new.parent ≡ To p) where
-  no_sibling : (m : ℕ) → ¬ ((at m).parent ≡ To p) → twinned (at m) new ≡ false
+module _ (at : ℕ → Record) (p : ℕ) (new : Record) (child : new.parent ≡ Some p) where
+  no_sibling : (m : ℕ) → ¬ ((at m).parent ≡ Some p) → twinned (at m) new ≡ false
   no_sibling m other = rw (says_one (says_link (at m).parent new.parent) (says_no (λ e. other (e ∙ child))))
 
-  sibling : (m : ℕ) → (at m).parent ≡ To p → twinned (at m) new ≡ twinned_sibling (at m) new
+  sibling : (m : ℕ) → (at m).parent ≡ Some p → twinned (at m) new ≡ twinned_sibling (at m) new
   sibling m same = rw (says_one (says_link (at m).parent new.parent) (says_yes (same ∙ sym child)))
 
   -- what the last child c before number k tells of a search below k
   data Last (k c : ℕ) : Type 0 where
     no_child : c ≡ 255 → twin_fault at k new ≡ false → Last k c
-    a_child : c < k → (at c).parent ≡ To p → twin_fault at k new ≡ (twin_fault at c new || twinned (at c) new) → Last k c
+    a_child : c < k → (at c).parent ≡ Some p → twin_fault at k new ≡ (twin_fault at c new || twinned (at c) new) → Last k c
 
   last_child_lem : (k : ℕ) → Last k (last_child at p k)
   unfolding last_child any_below
   last_child_lem zero = no_child refl refl
-  last_child_lem (suc k) = go (same_link (at k).parent (To p)) (says_link (at k).parent (To p)) (last_child_lem k)
+  last_child_lem (suc k) = go (same_link (at k).parent (Some p)) (says_link (at k).parent (Some p)) (last_child_lem k)
     where
-      go : (b : Bool) → Says b ((at k).parent ≡ To p) → Last k (last_child at p k) → Last (suc k) (pick b k (last_child at p k))
+      go : (b : Bool) → Says b ((at k).parent ≡ Some p) → Last k (last_child at p k) → Last (suc k) (pick b k (last_child at p k))
       go true s before = a_child (omega arith) (s.to tt) refl
       go false s (no_child e none) = no_child e (or_no none (no_sibling k (λ x. s.from x)))
       go false s (a_child h is same) = a_child (omega arith) is (or_no same (no_sibling k (λ x. s.from x)))
@@ -71,7 +71,7 @@ module _ (b : List ℕ) (older : List ℕ) (new : Record) where
     | a_child h is same ↦ next h is same
   ]
     where
-      rest : s < n → ((events_of b).at s).parent ≡ To f.parent → Family b s older (get_or older s 0) new
+      rest : s < n → ((events_of b).at s).parent ≡ Some f.parent → Family b s older (get_or older s 0) new
       rest h is = record {
         stand = record { held = omega (arith, f.stand.held); decodes = λ m l. f.stand.decodes m (omega arith) };
         reach = omega (arith, f.reach);
@@ -87,7 +87,7 @@ module _ (b : List ℕ) (older : List ℕ) (new : Record) where
         | a_child l _ _ ↦ omega (arith, f.reach, f.small)
       ]
 
-      next : s < n → ((events_of b).at s).parent ≡ To f.parent → found_below n ≡ (found_below s || twinned ((events_of b).at s) new) → Next n s
+      next : s < n → ((events_of b).at s).parent ≡ Some f.parent → found_below n ≡ (found_below s || twinned ((events_of b).at s) new) → Next n s
       next h is same = record {
         earlier = h;
         rest = rest h is;

@@ -1,7 +1,7 @@
 -- The tests 6 to 8 on events tell refusals 6 to 8 of the model.
+use Rattle.std.specs.Prelude.{Option, None, Some}
 use mathlib.Core.Path.{◌≡◌, refl, sym, subst, ap, ◌∙◌}
 use mathlib.Core.Bool.{Bool, true, false, not}
-use mathlib.Core.Option.{none, some}
 use Prim.Native.Nat.{ℕ, ◌<◌, ◌≤◌}
 use native.Mathlib.Omega.{arith}
 use lib.Dec.{T, eqb, eqb→eq}
@@ -11,16 +11,12 @@ use Rattle.events.specs.declared.Value.{Value}
 use Rattle.events.specs.declared.Value.TheVariants.{U, Known}
 use Rattle.events.specs.declared.Event.{Event}
 use Rattle.events.specs.declared.Event.TheVariants.{Init, Load, Store, Update}
-use Rattle.events.specs.declared.Link.{Link}
-use Rattle.events.specs.declared.Link.TheVariants.{Absent, To}
 use Rattle.events.specs.declared.Record.{Record}
 use Rattle.events.specs.Words.{is_init, is_read, is_write, location_of, read_of, written_of}
 use Rattle.record.specs.Form.{pick}
 use Rattle.model.specs.Table.{Table, IsInit, Read, Source, NoSource, thread}
 use Rattle.model.specs.WellFormed.{Root, Refused6, no_root, no_parent, parent_not_earlier, other_thread, thread_stood, EarlierWrite, Refused7, no_earlier_write, other_value, known_from_u, known_from_nothing, TwoReads, Refused8, twin}
 use Rattle.model.proofs.Fields.{absent_to, one_end}
-use Rattle.table.specs.declared.accesses.Access.{Access}
-use Rattle.table.specs.declared.accesses.Access.TheVariants.{Nothing, At}
 use Rattle.table.specs.Computed.{same_link, read_by, written_by, is_u, same_value, agrees, suits, branches, rooted, stood, misplaced, misplaced_by, parent_fault, unfit, unfit_by, source_fault, twinned, twin_fault}
 
 -- a test in two arms, each asked only where it counts
@@ -31,7 +27,7 @@ says_pick {c = false} s f g = g (λ x. s.from x)
 
 -- ---- links and values
 
-some_same : {v w : Value} → some v ≡ some w → v ≡ w
+some_same : {v w : Value} → Some v ≡ Some w → v ≡ w
 some_same e = cc
 
 known_not_u : {n : ℕ} → ¬ (Known n ≡ U)
@@ -39,11 +35,11 @@ known_not_u e =
     let z : ◌≡◌ {A = ℕ} 0 1 = cc in
     omega arith
 
-pub says_link : (l m : Link) → Says (same_link l m) (l ≡ m)
-says_link Absent Absent = says_yes refl
-says_link Absent (To q) = says_no (λ e. absent_to refl e)
-says_link (To p) Absent = says_no (λ e. absent_to e refl)
-says_link (To p) (To q) = says_iff (λ e. ap To e) (λ e. one_end e refl) (says_eq p q)
+pub says_link : (l m : Option ℕ) → Says (same_link l m) (l ≡ m)
+says_link None None = says_yes refl
+says_link None (Some q) = says_no (λ e. absent_to refl e)
+says_link (Some p) None = says_no (λ e. absent_to e refl)
+says_link (Some p) (Some q) = says_iff (λ e. ap Some e) (λ e. one_end e refl) (says_eq p q)
 
 says_value : (v w : Value) → Says (same_value v w) (v ≡ w)
 says_value U U = says_yes refl
@@ -53,9 +49,9 @@ says_value (Known m) (Known n) = says_iff (λ e. ap Known e) (λ e. cc) (says_eq
 
 -- ---- what an event reads, and what it writes
 
-data ReadAs (e : Event) : Access → Type 0 where
-  no_read : ¬ T (is_read e) → ReadAs e Nothing
-  a_read : {x : ℕ} {v : Value} → T (is_read e) → location_of e ≡ some x → read_of e ≡ some v → ReadAs e (At x v)
+data ReadAs (e : Event) : Option (ℕ × Value) → Type 0 where
+  no_read : ¬ T (is_read e) → ReadAs e None
+  a_read : {x : ℕ} {v : Value} → T (is_read e) → location_of e ≡ Some x → read_of e ≡ Some v → ReadAs e (Some (x, v))
 
 read_as : (e : Event) → ReadAs e (read_by e)
 read_as Init = no_read (λ x. x)
@@ -63,9 +59,9 @@ read_as (Load o x v) = a_read tt refl refl
 read_as (Store o x w) = no_read (λ x. x)
 read_as (Update o x v w) = a_read tt refl refl
 
-data WrittenAs (e : Event) : Access → Type 0 where
-  no_write : ¬ T (is_write e) → WrittenAs e Nothing
-  a_write : {x : ℕ} {w : Value} → T (is_write e) → location_of e ≡ some x → written_of e ≡ some w → WrittenAs e (At x w)
+data WrittenAs (e : Event) : Option (ℕ × Value) → Type 0 where
+  no_write : ¬ T (is_write e) → WrittenAs e None
+  a_write : {x : ℕ} {w : Value} → T (is_write e) → location_of e ≡ Some x → written_of e ≡ Some w → WrittenAs e (Some (x, w))
 
 written_as : (e : Event) → WrittenAs e (written_by e)
 written_as Init = no_write (λ x. x)
@@ -73,10 +69,10 @@ written_as (Load o x v) = no_write (λ x. x)
 written_as (Store o x w) = a_write tt refl refl
 written_as (Update o x v w) = a_write tt refl refl
 
-nothing_read : {A : Type 0} {v : Value} → none ≡ some v → A
+nothing_read : {A : Type 0} {v : Value} → None ≡ Some v → A
 nothing_read e = absurd (let z : ◌≡◌ {A = ℕ} 0 1 = cc in omega arith)
 
-reads_some : (e : Event) {v : Value} → read_of e ≡ some v → T (is_read e)
+reads_some : (e : Event) {v : Value} → read_of e ≡ Some v → T (is_read e)
 reads_some Init h = nothing_read h
 reads_some (Load o x v) h = tt
 reads_some (Store o x w) h = nothing_read h
@@ -92,7 +88,7 @@ module _ (t : Table) (n : ℕ) (at : ℕ → Record) (alike : (m : ℕ) → m < 
   says_root : Says (rooted (t.at n)) (Root t n)
   says_root =
       says_iff (λ (i, (h, l)). record { init = i; thread_0 = h; no_parent = l }) (λ x. (x.init, (x.thread_0, x.no_parent)))
-      (says_and (says_T (is_init (t.at n).event)) (says_and (says_eq (t.at n).thread 0) (says_link (t.at n).parent Absent)))
+      (says_and (says_T (is_init (t.at n).event)) (says_and (says_eq (t.at n).thread 0) (says_link (t.at n).parent None)))
 
   first_6 : n ≡ 0 → Says (not (rooted (t.at n))) (Refused6 t n)
   first_6 z =
@@ -106,7 +102,7 @@ module _ (t : Table) (n : ℕ) (at : ℕ → Record) (alike : (m : ℕ) → m < 
       ])
       (says_not says_root)
 
-  module _ (later : ¬ (n ≡ 0)) {p : ℕ} (e : (t.at n).parent ≡ To p) where
+  module _ (later : ¬ (n ≡ 0)) {p : ℕ} (e : (t.at n).parent ≡ Some p) where
     init_6 : p < n → IsInit t n → Says (stood at n (t.at n).thread) (Refused6 t n)
     init_6 h i =
         says_iff (λ (m, (l, same)). thread_stood i l same)
@@ -140,14 +136,14 @@ module _ (t : Table) (n : ℕ) (at : ℕ → Record) (alike : (m : ℕ) → m < 
   unfolding parent_fault
   says_6 = says_pick (says_eq n 0) first_6 (λ later. go later (t.at n).parent refl)
     where
-      go : ¬ (n ≡ 0) → (l : Link) → (t.at n).parent ≡ l → Says (misplaced_by at n l (t.at n)) (Refused6 t n)
-      go later Absent e = says_yes (no_parent later e)
-      go later (To p) e = parent_6 later e
+      go : ¬ (n ≡ 0) → (l : Option ℕ) → (t.at n).parent ≡ l → Says (misplaced_by at n l (t.at n)) (Refused6 t n)
+      go later None e = says_yes (no_parent later e)
+      go later (Some p) e = parent_6 later e
 
   -- ---- 7
 
-  module _ (reads : Read t n) {x : ℕ} (placed : location_of (t.at n).event ≡ some x) where
-    absent_7 : NoSource t n → (v : Value) → read_of (t.at n).event ≡ some v → Says (not (is_u v)) (Refused7 t n)
+  module _ (reads : Read t n) {x : ℕ} (placed : location_of (t.at n).event ≡ Some x) where
+    absent_7 : NoSource t n → (v : Value) → read_of (t.at n).event ≡ Some v → Says (not (is_u v)) (Refused7 t n)
     absent_7 absent (Known v) value = says_yes (known_from_nothing absent value)
     absent_7 absent U value = says_no (λ r. elim r [
       | no_earlier_write c _ ↦ absent_to absent c.is
@@ -156,24 +152,24 @@ module _ (t : Table) (n : ℕ) (at : ℕ → Record) (alike : (m : ℕ) → m < 
       | known_from_nothing _ v ↦ known_not_u (some_same (sym v ∙ value))
     ])
 
-    module _ {s : ℕ} (is : (t.at n).source ≡ To s) where
+    module _ {s : ℕ} (is : (t.at n).source ≡ Some s) where
       source : Source t s n
       source = record { reads = reads; is = is }
 
       clash :
-          {y : ℕ} → location_of (t.at s).event ≡ some y → Dec (y ≡ x) → (v w : Value) → read_of (t.at n).event ≡ some v → written_of (t.at s).event ≡ some w → ¬ ((y ≡ x) × T (agrees v w)) → Refused7 t n
+          {y : ℕ} → location_of (t.at s).event ≡ Some y → Dec (y ≡ x) → (v w : Value) → read_of (t.at n).event ≡ Some v → written_of (t.at s).event ≡ Some w → ¬ ((y ≡ x) × T (agrees v w)) → Refused7 t n
       clash {y} there (no other) v w value wrote h =
           no_earlier_write source (λ e. other (eqb→eq y x (rw (there, placed) at e.one_location)))
       clash there (yes same) U w value wrote h = absurd (h (same, tt))
       clash there (yes same) (Known v) U value wrote h = known_from_u source wrote value
       clash there (yes same) (Known v) (Known w) value wrote h = other_value source wrote value (λ e. h (same, (says_eq w v).from e))
 
-      wrote_at : {k : ℕ} {u w : Value} → written_of (t.at s).event ≡ some w → Source t k n → written_of (t.at k).event ≡ some u → w ≡ u
+      wrote_at : {k : ℕ} {u w : Value} → written_of (t.at s).event ≡ Some w → Source t k n → written_of (t.at k).event ≡ Some u → w ≡ u
       wrote_at {u = u} wrote c a =
-          some_same (sym wrote ∙ subst (λ (k : ℕ). written_of (t.at k).event ≡ some u) (one_end is c.is) a)
+          some_same (sym wrote ∙ subst (λ (k : ℕ). written_of (t.at k).event ≡ Some u) (one_end is c.is) a)
 
       no_clash :
-          {v w : Value} → EarlierWrite t s n → read_of (t.at n).event ≡ some v → written_of (t.at s).event ≡ some w → T (agrees v w) → ¬ Refused7 t n
+          {v w : Value} → EarlierWrite t s n → read_of (t.at n).event ≡ Some v → written_of (t.at s).event ≡ Some w → T (agrees v w) → ¬ Refused7 t n
       no_clash write value wrote agree r = elim r [
         | no_earlier_write c lacking ↦ subst (λ (k : ℕ). ¬ EarlierWrite t k n) (one_end is c.is) lacking write
         | other_value {w = a} {v = b} c p q d ↦ d (eqb→eq a b (rw (some_same (sym value ∙ q), wrote_at wrote c p) at agree))
@@ -181,12 +177,12 @@ module _ (t : Table) (n : ℕ) (at : ℕ → Record) (alike : (m : ℕ) → m < 
         | known_from_nothing absent _ ↦ absent_to absent is
       ]
 
-      source_7 : (v : Value) → read_of (t.at n).event ≡ some v → Says (unfit at n s x v) (Refused7 t n)
+      source_7 : (v : Value) → read_of (t.at n).event ≡ Some v → Says (unfit at n s x v) (Refused7 t n)
       source_7 v value =
           says_pick (says_lt s n) (λ h. rw (alike s h) (go h (written_as (t.at s).event)))
           (λ late. says_yes (no_earlier_write source (λ w. late w.earlier)))
         where
-          go : s < n → {a : Access} → WrittenAs (t.at s).event a → Says (not (suits a x v)) (Refused7 t n)
+          go : s < n → {a : Option (ℕ × Value)} → WrittenAs (t.at s).event a → Says (not (suits a x v)) (Refused7 t n)
           go h (no_write never) = says_yes (no_earlier_write source (λ w. never w.write))
           go h (a_write {x = y} {w = w} writes there wrote) =
               says_iff (clash there (says_dec (says_eq y x)) v w value wrote)
@@ -198,22 +194,22 @@ module _ (t : Table) (n : ℕ) (at : ℕ → Record) (alike : (m : ℕ) → m < 
   unfolding source_fault
   says_7 = go (read_as (t.at n).event) (t.at n).source refl
     where
-      go : {a : Access} → ReadAs (t.at n).event a → (l : Link) → (t.at n).source ≡ l → Says (unfit_by at n a l) (Refused7 t n)
+      go : {a : Option (ℕ × Value)} → ReadAs (t.at n).event a → (l : Option ℕ) → (t.at n).source ≡ l → Says (unfit_by at n a l) (Refused7 t n)
       go (no_read never) l e = says_no (λ r. elim r [
         | no_earlier_write c _ ↦ never c.reads
         | other_value c _ _ _ ↦ never c.reads
         | known_from_u c _ _ ↦ never c.reads
         | known_from_nothing _ v ↦ never (reads_some (t.at n).event v)
       ])
-      go (a_read {v = v} reads placed value) Absent e = absent_7 reads placed e v value
-      go (a_read {v = v} reads placed value) (To s) e = source_7 reads placed e v value
+      go (a_read {v = v} reads placed value) None e = absent_7 reads placed e v value
+      go (a_read {v = v} reads placed value) (Some s) e = source_7 reads placed e v value
 
   -- ---- 8
 
   says_two_reads : (m : ℕ) → Says (branches (read_by (t.at m).event) (read_by (t.at n).event)) (TwoReads t m n)
   says_two_reads m = go (read_as (t.at m).event) (read_as (t.at n).event)
     where
-      go : {a b : Access} → ReadAs (t.at m).event a → ReadAs (t.at n).event b → Says (branches a b) (TwoReads t m n)
+      go : {a b : Option (ℕ × Value)} → ReadAs (t.at m).event a → ReadAs (t.at n).event b → Says (branches a b) (TwoReads t m n)
       go (no_read never) other = says_no (λ x. never x.read_m)
       go (a_read _ _ _) (no_read never) = says_no (λ x. never x.read_n)
       go (a_read {x = x} {v = v} reads placed value) (a_read {x = y} {v = w} reads' placed' value') =
@@ -225,7 +221,7 @@ module _ (t : Table) (n : ℕ) (at : ℕ → Record) (alike : (m : ℕ) → m < 
             one_location = rw (placed, placed') ((says_eq x y).from one);
             different = λ same. other (some_same (sym value ∙ (same ∙ value')));
           })
-          (λ z. (eqb→eq x y (rw (placed, placed') at z.one_location), λ same. z.different (value ∙ (ap some same ∙ sym value'))))
+          (λ z. (eqb→eq x y (rw (placed, placed') at z.one_location), λ same. z.different (value ∙ (ap Some same ∙ sym value'))))
           (says_and (says_eq x y) (says_not (says_value v w)))
 
   says_twinned :

@@ -1,4 +1,6 @@
 -- Any two answers that document 01 allows for one table are equal.
+use Rattle.refusals.specs.declared.Refusal.{Refusal}
+use Rattle.std.specs.Prelude.{Err, Result}
 use mathlib.Core.Path.{◌≡◌, refl, subst, ap, ap₂}
 use mathlib.Core.List.{List}
 use Prim.Native.Nat.{ℕ, ◌<◌}
@@ -8,19 +10,14 @@ use Rattle.refusals.specs.declared.Fault.{Fault}
 use Rattle.refusals.specs.declared.Told.{Told}
 use Rattle.refusals.specs.Numbers.{of_record}
 use Rattle.refusals.proofs.Known.{same_refusal, told_one}
-use Rattle.record.specs.declared.Decoded.TheVariants.{Bad}
 use Rattle.record.specs.Form.{decode, part}
-use Rattle.table.specs.declared.Checked.{Checked}
-use Rattle.table.specs.declared.Checked.TheVariants.{Faulty}
-use Rattle.table.specs.declared.Tested.{Tested}
-use Rattle.table.specs.declared.Tested.TheVariants.{Refused}
 use Rattle.table.specs.Events.{count_of}
 use Rattle.table.specs.Test.{Decodes, FaultAt, by_bytes, by_6, by_7, by_8, Passes, CheckAnswer, passes, faulty, FirstFault, first_fault, RecordsAnswer, refused, sound, TestAnswer, wrong_length, records}
 
 -- ---- one record
 
 module _ {b : List ℕ} {n : ℕ} where
-  not_both : {A : Type 0} {f : Fault} → decode (part b n) ≡ Bad f → Decodes b n → A
+  not_both : {A : Type 0} {f : Fault} → decode (part b n) ≡ Err f → Decodes b n → A
   not_both e d =
       let g = d.read in
       absurd (let z : ◌≡◌ {A = ℕ} 0 1 = cc in omega arith)
@@ -49,11 +46,11 @@ module _ {b : List ℕ} {n : ℕ} where
   no_fault p (by_7 _ _ x) = absurd (p.not_7 x)
   no_fault p (by_8 _ _ _ x) = absurd (p.not_8 x)
 
-  pub check_one : {x y : Checked} → CheckAnswer b n x → CheckAnswer b n y → x ≡ y
+  pub check_one : {x y : Result (Unit {0}) Fault} → CheckAnswer b n x → CheckAnswer b n y → x ≡ y
   check_one (passes p) (passes q) = refl
   check_one (passes p) (faulty f) = no_fault p f
   check_one (faulty f) (passes p) = no_fault p f
-  check_one (faulty f) (faulty g) = ap Faulty (fault_one f g)
+  check_one (faulty f) (faulty g) = ap Err (fault_one f g)
 
 -- ---- a table
 
@@ -76,14 +73,14 @@ module _ {b : List ℕ} where
   all_pass : {A : Type 0} {u : Told} → FirstFault b u → ((m : ℕ) → m < count_of b → Passes b m) → A
   all_pass (first_fault {n = n} h _ x) all = no_fault (all n h) x
 
-  pub records_one : {x y : Tested} → RecordsAnswer b x → RecordsAnswer b y → x ≡ y
-  records_one (refused {r = r} x) (refused {r = s} y) = ap Refused (told_one r s (first_one x y))
+  pub records_one : {x y : Result ℕ Refusal} → RecordsAnswer b x → RecordsAnswer b y → x ≡ y
+  records_one (refused {r = r} x) (refused {r = s} y) = ap Err (told_one r s (first_one x y))
   records_one (refused x) (sound all) = all_pass x all
   records_one (sound all) (refused x) = all_pass x all
   records_one (sound _) (sound _) = refl
 
-  pub test_one : {x y : Tested} → TestAnswer b x → TestAnswer b y → x ≡ y
-  test_one (wrong_length _ e) (wrong_length _ h) = ap Refused (same_refusal e h)
+  pub test_one : {x y : Result ℕ Refusal} → TestAnswer b x → TestAnswer b y → x ≡ y
+  test_one (wrong_length _ e) (wrong_length _ h) = ap Err (same_refusal e h)
   test_one (wrong_length wrong _) (records right _) = absurd (wrong right)
   test_one (records right _) (wrong_length wrong _) = absurd (wrong right)
   test_one (records _ x) (records _ y) = records_one x y

@@ -1,4 +1,5 @@
 -- A table that is not refused is a well-formed table of the model.
+use Rattle.std.specs.Prelude.{Ok}
 use mathlib.Core.Path.{◌≡◌, refl, sym, ap, ◌∙◌}
 use mathlib.Core.List.{List, []}
 use Prim.Native.Nat.{ℕ, ◌%◌, ◌<◌}
@@ -10,7 +11,6 @@ use Rattle.record.proofs.RoundTrip.{only_reads}
 use Rattle.record.proofs.Parts.{part_past}
 use Rattle.model.specs.Table.{Ends, inert}
 use Rattle.model.specs.WellFormed.{WellFormed, Sound}
-use Rattle.table.specs.declared.Tested.TheVariants as tested
 use Rattle.table.specs.Events.{count_of, record_of, events_of}
 use Rattle.table.specs.Test.{length_ok, Passes, RecordsAnswer, sound, TestAnswer, records}
 use Rattle.table.proofs.Exact.{decoded_at}
@@ -21,10 +21,10 @@ pub record AllPass (b : List ℕ) (n : ℕ) : Type 0 where
   pub count : n ≡ count_of b
   pub each : (m : ℕ) → m < count_of b → Passes b m
 
-pub records_pass : (b : List ℕ) (n : ℕ) → RecordsAnswer b (tested.Sound n) → AllPass b n
+pub records_pass : (b : List ℕ) (n : ℕ) → RecordsAnswer b (Ok n) → AllPass b n
 records_pass b n (sound all) = record { count = refl; each = all }
 
-pub test_pass : (b : List ℕ) (n : ℕ) → TestAnswer b (tested.Sound n) → T (length_ok (length b)) × AllPass b n
+pub test_pass : (b : List ℕ) (n : ℕ) → TestAnswer b (Ok n) → T (length_ok (length b)) × AllPass b n
 test_pass b n (records right x) = (right, records_pass b n x)
 
 -- no bytes are no record
@@ -51,12 +51,12 @@ unfolding events_of
 passes_well_formed b some whole all =
     record { some_record = some; sound = λ n h. sound_at b n (all n h); ends = events_end b whole }
 
-pub sound_well_formed : (b : List ℕ) (n : ℕ) → TestAnswer b (tested.Sound n) → WellFormed (events_of b)
+pub sound_well_formed : (b : List ℕ) (n : ℕ) → TestAnswer b (Ok n) → WellFormed (events_of b)
 sound_well_formed b n x =
     let (ok, all) = test_pass b n x in
     let right = right_length (length b) ok in
     passes_well_formed b (omega arith) right.whole_records all.each
 
-pub sound_count : (b : List ℕ) (n : ℕ) → TestAnswer b (tested.Sound n) → (events_of b).count ≡ n
+pub sound_count : (b : List ℕ) (n : ℕ) → TestAnswer b (Ok n) → (events_of b).count ≡ n
 unfolding events_of
 sound_count b n x = sym (test_pass b n x).1.count

@@ -1,4 +1,5 @@
 -- Round trips of a whole table: written out and read back it is the same events, and read and written back the same bytes.
+use Rattle.std.specs.Prelude.{Ok}
 use mathlib.Core.Path.{◌≡◌, refl, sym, subst, subst⁻¹, ap, ap₂, ◌∙◌}
 use mathlib.Core.List.{List, ◌++◌}
 use Prim.Native.Nat.{ℕ, zero, suc, ◌+◌, ◌*◌, ◌<◌, ◌≤◌}
@@ -7,14 +8,12 @@ use native.Mathlib.Decide.{dec_lt}
 use lib.Dec.{T}
 use lib.ListN.{length, take, length-append}
 use Rattle.events.specs.declared.Record.{Record}
-use Rattle.record.specs.declared.Decoded.TheVariants.{Good}
 use Rattle.record.specs.Form.{decode, encode, part}
 use Rattle.record.specs.Fits.{Bytes, Fits}
 use Rattle.record.proofs.RoundTrip.{decode_encode, encode_decode}
 use Rattle.record.proofs.Parts.{encode_length, part_append, part_last, whole_part, front_more}
 use Rattle.model.specs.Table.{Table, Ends, Inside}
 use Rattle.model.specs.WellFormed.{WellFormed, Sound as Model-as-Sound}
-use Rattle.table.specs.declared.Tested.TheVariants.{Sound}
 use Rattle.table.specs.Events.{count_of, events_of, written, bytes_of}
 use Rattle.limits.specs.Limit.{limit}
 use Rattle.table.specs.Test.{length_ok, Passes, RecordsAnswer, sound, TestAnswer, records}
@@ -46,7 +45,7 @@ module _ (at : ℕ → Record) where
 -- ---- written out and read back
 
 module _ (t : Table) (ends : Ends t) (fits : (n : ℕ) → Inside t n → Fits (t.at n)) where
-  written_decodes : (n : ℕ) → Inside t n → decode (part (bytes_of t) n) ≡ Good (t.at n)
+  written_decodes : (n : ℕ) → Inside t n → decode (part (bytes_of t) n) ≡ Ok (t.at n)
   written_decodes n h = ap decode (written_part t.at t.count n h) ∙ decode_encode (t.at n) (fits n h)
 
   written_count : count_of (bytes_of t) ≡ t.count
@@ -78,14 +77,14 @@ module _ (t : Table) (ends : Ends t) (fits : (n : ℕ) → Inside t n → Fits (
       }
 
 -- every well-formed table within the limit, written out, is read back as itself
-pub written_sound : (t : Table) → WellFormed t → ((n : ℕ) → Inside t n → Fits (t.at n)) → t.count ≤ limit → TestAnswer (bytes_of t) (Sound t.count)
+pub written_sound : (t : Table) → WellFormed t → ((n : ℕ) → Inside t n → Fits (t.at n)) → t.count ≤ limit → TestAnswer (bytes_of t) (Ok t.count)
 written_sound t well fits small =
     let long = written_length t.at t.count in
     let some = well.some_record in
     let count = written_count t well.ends fits in
     let right : T (length_ok (length (bytes_of t))) = (says_right_length (length (bytes_of t))).from (omega arith) in
     records right
-    (subst (λ (k : ℕ). RecordsAnswer (bytes_of t) (Sound k)) count (sound (written_passes t well.ends fits well.sound)))
+    (subst (λ (k : ℕ). RecordsAnswer (bytes_of t) (Ok k)) count (sound (written_passes t well.ends fits well.sound)))
 
 -- ---- read and written back
 
@@ -99,7 +98,7 @@ read_front b bytes each (suc k) h =
     in
     ap₂ ◌++◌ (read_front b bytes each k (omega arith)) last ∙ sym (front_more b k)
 
-pub read_written : (b : List ℕ) (n : ℕ) → Bytes b → TestAnswer b (Sound n) → bytes_of (events_of b) ≡ b
+pub read_written : (b : List ℕ) (n : ℕ) → Bytes b → TestAnswer b (Ok n) → bytes_of (events_of b) ≡ b
 read_written b n bytes x =
     let (ok, all) = test_pass b n x in
     ap (written (events_of b).at) (sound_count b n x ∙ all.count) ∙ (read_front b bytes all.each (count_of b) (omega arith) ∙ front_whole b ok)

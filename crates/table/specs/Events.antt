@@ -1,8 +1,7 @@
 -- The events that the bytes of a table hold, and the bytes that a table of events is written as.
-use Rattle.std.specs.Prelude.{List, [], ◌++◌, ℕ, zero, suc, ◌/◌, length}
+use Rattle.refusals.specs.declared.Fault.{Fault}
+use Rattle.std.specs.Prelude.{List, [], ◌++◌, ℕ, zero, suc, ◌/◌, length, Err, Ok, Result}
 use Rattle.events.specs.declared.Record.{Record}
-use Rattle.record.specs.declared.Decoded.{Decoded}
-use Rattle.record.specs.declared.Decoded.TheVariants.{Good, Bad}
 use Rattle.record.specs.Form.{record_size, decode, encode, part}
 use Rattle.model.specs.Table.{Table, inert}
 
@@ -10,9 +9,9 @@ use Rattle.model.specs.Table.{Table, inert}
 abbrev pub count_of : List ℕ → ℕ
 count_of b = length b / record_size
 
-abbrev pub record_of : Decoded → Record
-record_of (Good r) = r
-record_of (Bad f) = inert
+abbrev pub record_of : Result Record Fault → Record
+record_of (Ok r) = r
+record_of (Err f) = inert
 
 unfoldable pub events_of : List ℕ → Table
 events_of b = record { count = count_of b; at = λ n. record_of (decode (part b n)) }

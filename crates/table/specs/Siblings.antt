@@ -1,6 +1,5 @@
 -- The columns by which a record's siblings are found: for each record its last child so far, and its parent's child before it.
-use Rattle.std.specs.Prelude.{◌≡◌, Bool, not, ◌&&◌, List, ℕ, zero, suc, ◌<◌, ◌≤◌, eqb, length, get_or}
-use Rattle.events.specs.declared.Link.TheVariants.{To}
+use Rattle.std.specs.Prelude.{◌≡◌, Bool, not, ◌&&◌, List, ℕ, zero, suc, ◌<◌, ◌≤◌, eqb, length, get_or, Some}
 use Rattle.events.specs.declared.Record.{Record}
 use Rattle.record.specs.Form.{pick}
 use Rattle.table.specs.Computed.{same_link, read_by, branches}
@@ -14,12 +13,12 @@ twinned_sibling a r = eqb a.thread r.thread && not (branches (read_by a.event) (
 -- the last record before number n whose parent is p; 255 for none
 unfoldable pub last_child : (ℕ → Record) → ℕ → ℕ → ℕ
 last_child at p zero = 255
-last_child at p (suc n) = pick (same_link (at n).parent (To p)) n (last_child at p n)
+last_child at p (suc n) = pick (same_link (at n).parent (Some p)) n (last_child at p n)
 
 -- c is the last of p's children before number n, and each of them leads by `older` to the one before it
 pub record Chain (at : ℕ → Record) (n : ℕ) (older : List ℕ) (p c : ℕ) : Type 0 where
   pub last : c ≡ last_child at p n
-  pub before : (m : ℕ) → m < n → (at m).parent ≡ To p → get_or older m 0 ≡ last_child at p m
+  pub before : (m : ℕ) → m < n → (at m).parent ≡ Some p → get_or older m 0 ≡ last_child at p m
 
 -- the children before number n of the parent of `new`, from the youngest on
 pub record Family (b : List ℕ) (n : ℕ) (older : List ℕ) (youngest : ℕ) (new : Record) : Type 0 where
@@ -27,7 +26,7 @@ pub record Family (b : List ℕ) (n : ℕ) (older : List ℕ) (youngest : ℕ) (
   pub reach : n ≤ length older
   pub small : length older ≤ 255
   pub parent : ℕ
-  pub child : new.parent ≡ To parent
+  pub child : new.parent ≡ Some parent
   pub chain : Chain (events_of b).at n older parent youngest
 
 -- the columns of the first n records, where they have room for so many

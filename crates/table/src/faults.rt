@@ -4,18 +4,16 @@ ghost use Rattle.table.specs.Computed.{rooted, stood, misplaced, parent_fault, u
 ghost use Rattle.table.specs.Events.{events_of};
 ghost use Rattle.table.specs.Standing.{AllStand};
 
-use crate::accesses::{Access, is_init, is_u, read_by, same_link, suits, written_by};
+use crate::accesses::{is_init, is_u, read_by, same_link, suits, written_by};
 use crate::stored::{standing_at, thread_at};
-use events::{Link, Record, Value};
+use events::{Record, Value};
 use numbers::wide;
 
 // "an Init of thread 0 without parent"
 fn is_root(new: Record) -> bool
     ensures { result ≡ rooted new }
 {
-    let event = new.event;
-    let parent = new.parent;
-    is_init(event) & ((new.thread == 0) & same_link(parent, Link::Absent))
+    is_init(new.event) & ((new.thread == 0) & same_link(new.parent, None))
 }
 
 // "an Init's thread has stood in an earlier record"
@@ -37,8 +35,7 @@ fn is_misplaced(table: &[u8], n: usize, p: usize, new: Record) -> bool
     ensures { result ≡ misplaced (events_of table.now).at n p new }
 {
     if p < n {
-        let event = new.event;
-        if is_init(event) {
+        if is_init(new.event) {
             return thread_stood(table, n, new.thread);
         }
         return !(thread_at(table, p) == new.thread);
@@ -54,10 +51,9 @@ pub fn parent_fault(table: &[u8], n: usize, new: Record) -> bool
     if n == 0 {
         return !is_root(new);
     }
-    let parent = new.parent;
-    match parent {
-        Link::Absent => true,
-        Link::To(p) => is_misplaced(table, n, wide(p), new),
+    match new.parent {
+        None => true,
+        Some(p) => is_misplaced(table, n, wide(p), new),
     }
 }
 
@@ -68,8 +64,7 @@ fn is_unfit(table: &[u8], n: usize, s: usize, location: u8, read: Value) -> bool
 {
     if s < n {
         let source = standing_at(table, s);
-        let event = source.event;
-        return !suits(written_by(event), location, read);
+        return !suits(written_by(source.event), location, read);
     }
     true
 }
@@ -79,13 +74,9 @@ pub fn source_fault(table: &[u8], n: usize, new: Record) -> bool
     requires { AllStand table.now n }
     ensures { result ≡ source_fault (events_of table.now).at n new }
 {
-    let event = new.event;
-    let source = new.source;
-    match read_by(event) {
-        Access::Nothing => false,
-        Access::At { location, value } => match source {
-            Link::Absent => !is_u(value),
-            Link::To(s) => is_unfit(table, n, wide(s), location, value),
-        },
+    match (read_by(new.event), new.source) {
+        (None, _) => false,
+        (Some((_, value)), None) => !is_u(value),
+        (Some((location, value)), Some(s)) => is_unfit(table, n, wide(s), location, value),
     }
 }

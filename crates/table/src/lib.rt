@@ -7,7 +7,6 @@ mod stored;
 mod twins;
 
 ghost use Rattle.std.specs.Prelude.{◌≡◌, ◌++◌, ◌*◌, ◌≤◌, length, take};
-ghost use Rattle.record.specs.declared.Decoded.TheVariants.{Good};
 ghost use Rattle.record.specs.Form.{record_size, encode};
 ghost use Rattle.table.specs.Computed.{checked};
 ghost use Rattle.table.specs.Events.{events_of};
@@ -17,7 +16,6 @@ ghost use Rattle.table.specs.Test.{length_ok, CheckAnswer, RecordsAnswer, TestAn
 
 use events::Record;
 use limits::LIMIT;
-use record::Decoded;
 use record::places::{NONE, SIZE};
 use refusals::{Fault, Refusal};
 pub use stored::record_at;
@@ -25,50 +23,39 @@ pub use stored::record_at;
 // How many records the columns have room for: as many as a byte can number beside `NONE`.
 const KEPT: usize = 255;
 
-// What the test of one record says.
-#[derive(Drop)]
-pub enum Checked {
-    Fine,
-    Faulty(Fault),
-}
-
-// What the test of a table says: its count of records, or the refusal.
-#[derive(Drop)]
-pub enum Tested {
-    Sound(usize),
-    Refused(Refusal),
-}
-
 // Tests 6 to 8, "in order within one; the first fault is the answer".
-fn check_event(table: &[u8], n: usize, last: &[u8], older: &[u8], new: Record) -> Checked
+fn check_event(table: &[u8], n: usize, last: &[u8], older: &[u8], new: Record) -> Result<(), Fault>
     requires { Kept table.now n last.now older.now }
-    ensures { result ≡ checked (events_of table.now).at n (Good new) }
+    ensures { result ≡ checked (events_of table.now).at n (Ok new) }
 {
     if faults::parent_fault(table, n, new) {
-        return Checked::Faulty(Fault::Parent);
+        return Err(Fault::Parent);
     }
     if faults::source_fault(table, n, new) {
-        return Checked::Faulty(Fault::Source);
+        return Err(Fault::Source);
     }
     if twins::twin_fault(table, n, last, older, new) {
-        return Checked::Faulty(Fault::Twin);
+        return Err(Fault::Twin);
     }
-    Checked::Fine
+    Ok(())
 }
 
 // The test of what was read as record n.
-fn check_decoded(table: &[u8], n: usize, last: &[u8], older: &[u8], d: Decoded) -> Checked
+fn check_decoded(
+    table: &[u8],
+    n: usize,
+    last: &[u8],
+    older: &[u8],
+    d: Result<Record, Fault>,
+) -> Result<(), Fault>
     requires { Kept table.now n last.now older.now }
     ensures { result ≡ checked (events_of table.now).at n d }
 {
-    match d {
-        Decoded::Good(r) => check_event(table, n, last, older, r),
-        Decoded::Bad(f) => Checked::Faulty(f),
-    }
+    check_event(table, n, last, older, d?)
 }
 
 // The test of a record that is to stand after the first n, "as if its bytes were read".
-pub fn check_new(table: &[u8], n: usize, r: Record) -> Checked
+pub fn check_new(table: &[u8], n: usize, r: Record) -> Result<(), Fault>
     requires { PassingUse table.now n }
     ensures { CheckAnswer (take (record_size * n) table.now ++ encode r) n result }
 {
@@ -79,7 +66,7 @@ pub fn check_new(table: &[u8], n: usize, r: Record) -> Checked
 }
 
 // The test of the first `count` records.
-pub fn test_records(table: &[u8], count: usize) -> Tested
+pub fn test_records(table: &[u8], count: usize) -> Result<usize, Refusal>
     requires { record_size * count ≤ length table.now }
     ensures { RecordsAnswer (take (record_size * count) table.now) result }
 {
@@ -87,13 +74,11 @@ pub fn test_records(table: &[u8], count: usize) -> Tested
     let mut older = [NONE; KEPT];
     for n in 0..count {
         match check_decoded(table, n, &last, &older, slots::read_at(table, n)) {
-            Checked::Fine => twins::keep_child(table, n, &mut last, &mut older),
-            Checked::Faulty(f) => {
-                return Tested::Refused(Refusal::Record(f, n));
-            }
+            Ok(()) => twins::keep_child(table, n, &mut last, &mut older),
+            Err(f) => return Err(Refusal::Record(f, n)),
         }
     }
-    Tested::Sound(count)
+    Ok(count)
 }
 
 // Whether so many bytes can be a table: refusal 1 is not given.
@@ -104,13 +89,12 @@ pub fn length_ok(len: usize) -> bool
 }
 
 // The test of a table.
-pub fn test(table: &[u8]) -> Tested
+pub fn test(table: &[u8]) -> Result<usize, Refusal>
     ensures { TestAnswer table.now result }
 {
     let len = table.len();
-    if length_ok(len) {
-        test_records(table, len / SIZE)
-    } else {
-        Tested::Refused(Refusal::Length)
+    if !length_ok(len) {
+        return Err(Refusal::Length);
     }
+    test_records(table, len / SIZE)
 }

@@ -4,9 +4,9 @@ ghost use Rattle.record.specs.Form.{record_size};
 ghost use Rattle.table.specs.Events.{record_of, events_of};
 ghost use Rattle.table.specs.Standing.{Stands};
 
-use events::{Event, Link, Record};
-use record::Decoded;
+use events::{Event, Record};
 use record::places::{PARENT, THREAD};
+use refusals::Fault;
 use slots::part_at;
 
 pub fn thread_at(table: &[u8], n: usize) -> u8
@@ -17,7 +17,7 @@ pub fn thread_at(table: &[u8], n: usize) -> u8
     r[THREAD]
 }
 
-pub fn parent_at(table: &[u8], n: usize) -> Link
+pub fn parent_at(table: &[u8], n: usize) -> Option<u8>
     requires { Stands table.now n }
     ensures { result ≡ ((events_of table.now).at n).parent }
 {
@@ -25,15 +25,15 @@ pub fn parent_at(table: &[u8], n: usize) -> Link
     record::link_from(r[PARENT])
 }
 
-fn record_of(d: Decoded) -> Record
+fn record_of(d: Result<Record, Fault>) -> Record
     ensures { result ≡ record_of d }
 {
     match d {
-        Decoded::Good(r) => r,
-        Decoded::Bad(_) => Record {
+        Ok(r) => r,
+        Err(_) => Record {
             thread: 0,
-            parent: Link::Absent,
-            source: Link::Absent,
+            parent: None,
+            source: None,
             event: Event::Init,
         },
     }

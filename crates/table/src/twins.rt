@@ -7,7 +7,7 @@ ghost use Rattle.table.specs.Standing.{Stands, AllStand};
 
 use crate::accesses::{branches, read_by, same_link};
 use crate::stored::{parent_at, standing_at, thread_at};
-use events::{Link, Record};
+use events::Record;
 use numbers::wide;
 use record::places::NONE;
 
@@ -18,9 +18,7 @@ fn is_sibling_twin(table: &[u8], m: usize, new: Record) -> bool
 {
     if thread_at(table, m) == new.thread {
         let other = standing_at(table, m);
-        let a = other.event;
-        let b = new.event;
-        return !branches(read_by(a), read_by(b));
+        return !branches(read_by(other.event), read_by(new.event));
     }
     false
 }
@@ -30,8 +28,7 @@ fn is_twin(table: &[u8], m: usize, new: Record) -> bool
     requires { Stands table.now m }
     ensures { result ≡ twinned ((events_of table.now).at m) new }
 {
-    let parent = new.parent;
-    if same_link(parent_at(table, m), parent) {
+    if same_link(parent_at(table, m), new.parent) {
         return is_sibling_twin(table, m, new);
     }
     false
@@ -68,10 +65,9 @@ pub fn twin_fault(table: &[u8], n: usize, last: &[u8], older: &[u8], new: Record
     requires { Kept table.now n last.now older.now }
     ensures { result ≡ twin_fault (events_of table.now).at n new }
 {
-    let parent = new.parent;
-    match parent {
-        Link::Absent => twin_below(table, n, new),
-        Link::To(byte) => {
+    match new.parent {
+        None => twin_below(table, n, new),
+        Some(byte) => {
             let p = wide(byte);
             if (p < last.len()) & (n < older.len()) {
                 return twin_among(table, n, older, last[p], new);
@@ -88,8 +84,8 @@ pub fn keep_child(table: &[u8], n: usize, last: &mut [u8], older: &mut [u8])
     ensures { Kept table.now (n + 1) last.new older.new }
 {
     match parent_at(table, n) {
-        Link::Absent => {}
-        Link::To(byte) => {
+        None => {}
+        Some(byte) => {
             let p = wide(byte);
             if (p < last.len()) & (n < older.len()) {
                 older[n] = last[p];

@@ -6,9 +6,8 @@ ghost use Rattle.limits.specs.Limit.{limit};
 ghost use Rattle.record.specs.Form.{record_size};
 
 use events::Order;
-use fetch::{FetchTest, fetch, refusal_of_fetch};
+use fetch::{fetch, refusal_of_fetch};
 use limits::LIMIT;
-use programs::large::Large;
 use programs::say::Form;
 use programs::{examples, large, say};
 use record::places::{
@@ -17,17 +16,16 @@ use record::places::{
 };
 use refusals::Refusal;
 use std::io;
-use table::Tested;
 
 fn say_refusal(rt: &impl Print, r: Refusal) -> io::Result<()> {
     say::text(rt, b" ")?;
     say::refusal(rt, r)
 }
 
-fn say_tested(rt: &impl Print, tested: Tested) -> io::Result<()> {
+fn say_tested(rt: &impl Print, tested: Result<usize, Refusal>) -> io::Result<()> {
     match tested {
-        Tested::Sound(n) => say::number(rt, b" sound ", n),
-        Tested::Refused(r) => say_refusal(rt, r),
+        Ok(n) => say::number(rt, b" sound ", n),
+        Err(r) => say_refusal(rt, r),
     }
 }
 
@@ -37,10 +35,10 @@ fn say_test(rt: &impl Print, what: &[u8], table: &[u8]) -> io::Result<()> {
     say::text(rt, b"\n")
 }
 
-fn say_fetch_test(rt: &impl Print, tested: FetchTest) -> io::Result<()> {
+fn say_fetch_test(rt: &impl Print, tested: Result<(), Refusal>) -> io::Result<()> {
     match tested {
-        FetchTest::Given => say::text(rt, b" given"),
-        FetchTest::Refused(r) => say_refusal(rt, r),
+        Ok(()) => say::text(rt, b" given"),
+        Err(r) => say_refusal(rt, r),
     }
 }
 
@@ -65,7 +63,7 @@ fn say_front(rt: &impl Print, what: &[u8], len: usize) -> io::Result<()>
     requires { len ≤ record_size * limit + record_size }
 {
     let mut chain = [0u8; SIZE * LIMIT + SIZE];
-    large::write(Large::Chain, 201, &mut chain);
+    large::write(large::chain, 201, &mut chain);
     say_test(rt, what, &chain[0..len])
 }
 

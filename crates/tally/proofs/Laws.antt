@@ -1,16 +1,14 @@
 -- The figures over two lists of answers, one after the other, are the sums; and none is more than the answers are.
-use mathlib.Core.Path.{◌≡◌, refl, ap, ap₂, ◌∙◌}
+use mathlib.Core.Path.{◌≡◌, refl, ap₂}
 use mathlib.Core.Bool.{Bool, true, false}
 use mathlib.Core.List.{List, [], ◌∷◌, ◌++◌, map}
-use Prim.Native.Nat.{ℕ, zero, suc, ◌+◌, ◌-◌, ◌<◌, ◌≤◌, ◌^◌}
+use Prim.Native.Nat.{ℕ, zero, suc, ◌+◌, ◌<◌, ◌≤◌, ◌^◌, max}
 use native.Mathlib.Omega.{arith}
-use native.Mathlib.Decide.{dec_le}
 use lib.ListN.{length, get_or, length-append}
-use borrow.Author.Tests.{le-leb, lt-leb}
 use Rattle.findings.specs.declared.Verdict.TheVariants.{Undefined, Inconsistent, Consistent}
 use Rattle.findings.specs.Family.{all_in_order}
 use Rattle.tally.specs.Answer.{Answer}
-use Rattle.tally.specs.Figures.{one_if, how_many, numbers, refused_with, finds, judged_to, larger, records, largest_of, figures_of}
+use Rattle.tally.specs.Figures.{one_if, how_many, numbers, refused_with, finds, judged_to, largest_of, figures_of}
 use Rattle.tally.specs.Sums.{add_each, sums, Small}
 
 -- ---- the numbers of refusals
@@ -49,28 +47,9 @@ module _ (xs ys : List Answer) where
 
 -- ---- the largest
 
-larger_is : (m n : ℕ) → larger m n ≡ m + (n - m)
-larger_is m n = by (dec_le m n)
-  where
-    by : Dec (m ≤ n) → larger m n ≡ m + (n - m)
-    by (yes h) = rw (le-leb m n h) (omega arith)
-    by (no h) = let g : n < m = omega arith in rw (lt-leb m n g) (omega arith)
-
-larger_zero : (n : ℕ) → n ≡ larger 0 n
-larger_zero n = omega (arith, larger_is 0 n)
-
-pub larger_back : (n : ℕ) → n ≡ larger n 0
-larger_back n = omega (arith, larger_is n 0)
-
-pub larger_within : (k m n : ℕ) → m ≤ k → n ≤ k → larger m n ≤ k
-larger_within k m n h g = omega (arith, larger_is m n)
-
-larger_three : (k m n : ℕ) → larger k (larger m n) ≡ larger (larger k m) n
-larger_three k m n = omega (arith, larger_is m n, larger_is k m, larger_is k (larger m n), larger_is (larger k m) n)
-
-largest_join : (xs ys : List Answer) → largest_of (xs ++ ys) ≡ larger (largest_of xs) (largest_of ys)
-largest_join [] ys = larger_zero (largest_of ys)
-largest_join (x ∷ xs) ys = ap (larger (records x)) (largest_join xs ys) ∙ larger_three (records x) (largest_of xs) (largest_of ys)
+largest_join : (xs ys : List Answer) → largest_of (xs ++ ys) ≡ max (largest_of xs) (largest_of ys)
+largest_join [] ys = omega arith
+largest_join (x ∷ xs) ys = omega (arith, largest_join xs ys)
 
 -- ---- all of them
 

@@ -1,6 +1,5 @@
 -- The figures over a list of answers: what each counts.
-use Rattle.std.specs.Prelude.{Bool, true, false, cond, List, [], ◌∷◌, map, ℕ, ◌+◌, eqb, leb, length}
-use Rattle.std.proofs.Math.Option.{Option, none, some}
+use Rattle.std.specs.Prelude.{Bool, true, false, List, [], ◌∷◌, map, ℕ, ◌+◌, max, eqb, length, Option, None, Some}
 use Rattle.laws.specs.Witness.{Witness}
 use Rattle.findings.specs.declared.Finding.{Finding}
 use Rattle.findings.specs.declared.Verdict.{Verdict}
@@ -32,8 +31,8 @@ refused_with number (refused told) = eqb told.number number
 refused_with number (reported n x) = false
 
 abbrev pub has_witness : Option Witness → Bool
-has_witness none = false
-has_witness (some w) = true
+has_witness None = false
+has_witness (Some w) = true
 
 -- "each finding": the report has a witness of it
 abbrev pub finds : Finding → Answer → Bool
@@ -58,10 +57,6 @@ judged_to v (reported n x) = same_verdict v x.verdict
 
 -- ---- the largest table
 
--- the larger of two numbers
-abbrev pub larger : ℕ → ℕ → ℕ
-larger m n = cond (leb m n) n m
-
 -- the records of a table that is not refused
 abbrev pub records : Answer → ℕ
 records (refused told) = 0
@@ -70,7 +65,7 @@ records (reported n x) = n
 -- "the largest table in records among those not refused (0 if there is none)"
 abbrev pub largest_of : List Answer → ℕ
 largest_of [] = 0
-largest_of (x ∷ l) = larger (records x) (largest_of l)
+largest_of (x ∷ l) = max (records x) (largest_of l)
 
 -- ---- all of them
 

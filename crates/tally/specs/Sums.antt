@@ -1,6 +1,5 @@
 -- The sums of two figures: "Two batches joined give the sums", and "the largest table is the larger of the two".
-use Rattle.std.specs.Prelude.{List, [], ◌∷◌, ℕ, ◌+◌, ◌^◌, ◌<◌, get_or}
-use Rattle.tally.specs.Figures.{larger}
+use Rattle.std.specs.Prelude.{List, [], ◌∷◌, ℕ, ◌+◌, ◌^◌, ◌<◌, max, get_or}
 use Rattle.tally.specs.declared.Figures.{Figures}
 
 -- the numbers at one place added, each with each
@@ -17,7 +16,7 @@ sums f g = record {
   consistent = f.consistent + g.consistent;
   inconsistent = f.inconsistent + g.inconsistent;
   undefined = f.undefined + g.undefined;
-  largest = larger f.largest g.largest;
+  largest = max f.largest g.largest;
 }
 
 -- ---- numbers that can be added

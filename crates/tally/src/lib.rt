@@ -1,14 +1,17 @@
 // Monday's figures as values: none, and the sums of two.
 #![tactic(auto)]
 
-ghost use Rattle.std.specs.Prelude.{◌≡◌, [], ◌≤◌, length};
-ghost use Rattle.tally.specs.Figures.{larger, figures_of};
+ghost use Rattle.std.specs.Prelude.{◌≡◌, []};
+ghost use Rattle.tally.specs.Figures.{figures_of};
 ghost use Rattle.tally.specs.Sums.{add_each, sums, SmallEach, Small};
 
 use findings::Finding;
 
 // The refusals that a table can get: 1 to 8.
 pub const NUMBERS: usize = 8;
+
+// Each of them, in order.
+pub const EACH_NUMBER: [usize; NUMBERS] = [1, 2, 3, 4, 5, 6, 7, 8];
 
 // The figures over some tables.
 #[derive(Clone, Copy)]
@@ -25,50 +28,21 @@ pub struct Figures {
     pub largest: usize,
 }
 
-// Adds to each number the one at its place.
-fn add_each(into: &mut [usize], more: &[usize])
-    requires { (length into.old ≤ length more.now) × SmallEach into.old × SmallEach more.now }
-    ensures { into.new ≡ add_each into.old more.now }
-{
-    let mut i = 0;
-    while i < into.len() {
-        into[i] = into[i] + more[i];
-        i += 1;
-    }
-}
-
-fn refused_sums(mine: [usize; NUMBERS], more: [usize; NUMBERS]) -> [usize; NUMBERS]
+// The numbers at one place added, each with each.
+fn sums_of<const N: usize>(mine: [usize; N], more: [usize; N]) -> [usize; N]
     requires { SmallEach mine × SmallEach more }
-    ensures { result ≡ add_each mine more }
+    ensures { result ≡ add_each mine.entry more.entry }
 {
     let mut sums = mine;
-    add_each(&mut sums, &more);
-    sums
-}
-
-fn found_sums(
-    mine: [usize; Finding::COUNT],
-    more: [usize; Finding::COUNT],
-) -> [usize; Finding::COUNT]
-    requires { SmallEach mine × SmallEach more }
-    ensures { result ≡ add_each mine more }
-{
-    let mut sums = mine;
-    add_each(&mut sums, &more);
-    sums
-}
-
-fn larger(m: usize, n: usize) -> usize
-    ensures { result ≡ larger m n }
-{
-    if m <= n {
-        return n;
+    for (i, n) in more.iter().enumerate() {
+        sums[i] += *n;
     }
-    m
+    sums
 }
 
 impl Figures {
     // Over no table.
+    #[tactic(auto, unfolding(crate::specs::Figures::figures_of))]
     pub fn none() -> Figures
         ensures { result ≡ figures_of [] }
     {
@@ -84,22 +58,19 @@ impl Figures {
     }
 
     // The sums of both; the largest is the larger.
+    #[tactic(auto, unfolding(crate::specs::Sums::sums))]
     pub fn plus(self, more: Figures) -> Figures
         requires { Small self × Small more }
         ensures { result ≡ sums self more }
     {
-        let refused = self.refused;
-        let more_refused = more.refused;
-        let found = self.found;
-        let more_found = more.found;
         Figures {
             tables: self.tables + more.tables,
-            refused: refused_sums(refused, more_refused),
-            found: found_sums(found, more_found),
+            refused: sums_of(self.refused, more.refused),
+            found: sums_of(self.found, more.found),
             consistent: self.consistent + more.consistent,
             inconsistent: self.inconsistent + more.inconsistent,
             undefined: self.undefined + more.undefined,
-            largest: larger(self.largest, more.largest),
+            largest: self.largest.max(more.largest),
         }
     }
 }

@@ -1,15 +1,15 @@
 -- Laws of written text, of decimal numbers, and of a piece for each of a list.
-use mathlib.Core.Path.{◌≡◌, refl, sym, ap, ap₂, subst, ◌∙◌}
+use mathlib.Core.Path.{◌≡◌, sym, ap, ap₂, subst, ◌∙◌}
 use mathlib.Core.Bool.{Bool}
 use mathlib.Core.List.{List, [], ◌∷◌, ◌++◌, append_assoc, append-nil}
-use Prim.Native.Nat.{ℕ, zero, suc, ◌+◌, ◌-◌, ◌/◌, ◌%◌, ◌<◌, ◌≤◌}
+use Prim.Native.Nat.{ℕ, zero, suc, ◌+◌, ◌/◌, ◌%◌, ◌<◌, ◌≤◌}
 use native.Mathlib.Nat.{div-lt_self, add-zero}
 use native.Mathlib.Omega.{arith}
 use native.Mathlib.Numerals.{add-one}
 use native.Mathlib.Decide.{dec_lt}
 use lib.Dec.{ltb}
-use lib.ListN.{length, take, drop, set, get_or, length-append, length-drop, take-append-drop}
-use lib.Seq.{set_split, take-suc, take_at, drop-append-add, drop-drop, length-take-le}
+use lib.ListN.{length, take, drop, get_or, length-append, length-drop, take-append-drop}
+use lib.Seq.{take-suc, take-length, take_at, drop-append-add, drop-drop, length-take-le}
 use borrow.Author.Tests.{lt-ltb, le-ltb}
 use Rattle.text.specs.Text.{digits, decimal, none_if, each, Written}
 
@@ -20,20 +20,9 @@ written_length {before} {at} {text} h w =
     ∙ ap₂ ◌+◌ (length-take-le at before (omega arith)) (length-append text (drop (at + length text) before) ∙ ap (λ (n : ℕ). length text + n) (length-drop (at + length text) before))
     ∙ omega arith
 
-pub written_byte : (before : List ℕ) (at b : ℕ) → at + 1 ≤ length before → Written before at (b ∷ []) (set before at b) (at + 1)
-written_byte before at b h = record { holds = set_split before at b (omega arith) ∙ rw add-one; next = refl }
-
 -- the same under another name of the text
 pub written_text : {before : List ℕ} {at : ℕ} {s u after : List ℕ} {r : ℕ} → s ≡ u → Written before at s after r → Written before at u after r
 written_text {before} {at} {after = after} {r = r} e w = subst (λ (x : List ℕ). Written before at x after r) e w
-
--- a piece that was copied into the part from `at` on
-pub written_part :
-    (before piece part : List ℕ) (at : ℕ) → at + length piece ≤ length before
-    → part ≡ piece → Written before at piece (take at before ++ (part ++ drop (at + length piece - at) (drop at before))) (at + length piece)
-written_part before piece part at h e =
-    let size : at + length piece - at ≡ length piece = omega arith in
-    record { holds = ap₂ (λ (x : List ℕ) (k : ℕ). take at before ++ (x ++ drop k (drop at before))) e size ∙ rw drop-drop; next = refl }
 
 pub written_nothing : (before : List ℕ) (at : ℕ) → Written before at [] before at
 written_nothing before at = record { holds = sym (take-append-drop at before) ∙ rw add-zero; next = rw add-zero }
@@ -137,16 +126,15 @@ module _ {A : Type 0} (piece : A → List ℕ) where
       )
 
   -- with i of the pieces written, there is room for the next, and with it one more is written
-  module _ (before : List ℕ) (l : List A) (out : List ℕ) (at count i next : ℕ) (d a : A) (more : i < count) (enough : count ≤ length l) (room : at + length (each piece (take count l)) ≤ length before)
+  module _ (before : List ℕ) (l : List A) (out : List ℕ) (at i next : ℕ) (d a : A) (more : i < length l) (room : at + length (each piece l) ≤ length before)
       (w : Written before at (each piece (take i l)) out next) (is : a ≡ get_or l i d) where
     text : each piece (take (i + 1) l) ≡ each piece (take i l) ++ piece a
     text =
-        let inside : i < length l = omega arith in
         rw (add-one, take-suc l i d)
         (each_last (take i l) (get_or l i d) ∙ ap (λ (x : A). each piece (take i l) ++ piece x) (sym is))
 
     fits : at + length (each piece (take i l) ++ piece a) ≤ length before
-    fits = omega (arith, ap length text, each_within l (i + 1) count (omega arith))
+    fits = omega (arith, ap length text, each_within l (i + 1) (length l) (omega arith), ap (λ (k : List A). length (each piece k)) (take-length l))
 
     pub each_room : next + length (piece a) ≤ length out
     each_room =

@@ -27,7 +27,7 @@ fn put_byte(out: &mut [u8], at: usize, b: u8) -> usize
 fn digit(n: usize) -> u8
     ensures { result ≡ 48 + n % 10 }
 {
-    48 + ((n % 10) as u8)
+    b'0' + ((n % 10) as u8)
 }
 
 // Writes n in decimal, without leading zeros.
@@ -47,7 +47,7 @@ pub fn put_spaced(out: &mut [u8], at: usize, n: usize) -> usize
     requires { at + length (spaced n) ≤ length out.old }
     ensures { Written out.old at (spaced n) out.new result }
 {
-    let next = put_byte(out, at, 32);
+    let next = put_byte(out, at, b' ');
     put_decimal(out, next, n)
 }
 
@@ -57,10 +57,8 @@ pub fn put_each(out: &mut [u8], at: usize, numbers: &[u8], count: usize) -> usiz
     ensures { Written out.old at (spaced_each (take count numbers.now)) out.new result }
 {
     let mut next = at;
-    let mut i = 0;
-    while i < count {
-        next = put_spaced(out, next, wide(numbers[i]));
-        i += 1;
+    for n in &numbers[..count] {
+        next = put_spaced(out, next, wide(*n));
     }
     next
 }

@@ -1,8 +1,7 @@
 -- The least cycle of any relation on the numbers below n: the first record with the fewest steps back, then the least next record again and again.
-use mathlib.Core.Path.{◌≡◌, refl, subst}
+use mathlib.Core.Path.{◌≡◌, refl}
 use mathlib.Core.List.{List, [], ◌∷◌}
-use mathlib.Core.Logic.{◌⊎◌, inl, inr, ⊎_elim}
-use mathlib.Core.Option.{none, some}
+use Rattle.std.specs.Prelude.{Option, None, Some, MatchOption, IsSome}
 use Prim.Native.Nat.{ℕ, ◌+◌, ◌-◌, ◌<◌, ◌≤◌}
 use native.Mathlib.Omega.{arith}
 use native.Mathlib.Decide.{dec_lt}
@@ -10,53 +9,22 @@ use lib.ListN.{length, set}
 use Rattle.laws.specs.Steps.{Rel, Walk, IsCycle}
 use Rattle.laws.specs.Least.{Least, LeastCycle}
 use Rattle.laws.specs.Tails.{LeastTail}
-use Rattle.laws.proofs.Closure.{tri}
 use Rattle.laws.proofs.Steps.{Within}
 use Rattle.laws.proofs.Walks.{at_most, different, walk_below, least_closed_walk, walk_starts, cycle_fits}
 use Rattle.cycle.specs.Distances.{Reaches, Wrote}
 use Rattle.cycle.proofs.Writing.{Writing, writing_on, writing_close}
 use Rattle.tracing.specs.Layers.{entry, StepsTo}
-use Rattle.tracing.specs.Cycles.{Back, Chosen, StartOf, NextOf}
+use Rattle.tracing.specs.Cycles.{Back, Chosen, StartOf, IsNext, NextOf}
 
 -- ---- the start
 
 -- the fewest so far, and the first that has it
-pub record Sofar (R : Rel) (n best at s : ℕ) : Type 0 where
+pub record Sofar (R : Rel) (best : ℕ) (at : Option ℕ) (s : ℕ) : Type 0 where
   pub small : best ≤ 255
   pub low : (a : ℕ) (xs : List ℕ) → a < s → Walk R a xs a → best ≤ length xs + 1
-  pub place : ((at ≡ n) × (best ≡ 255)) ⊎ ((at < s) × ((best < 255) × (Back R at best × ((a : ℕ) (xs : List ℕ) → a < at → Walk R a xs a → best < length xs + 1))))
-
-module _ {R : Rel} {n : ℕ} where
-  pub start_none : Sofar R n 255 n 0
-  start_none = record { small = omega arith; low = λ a xs h. absurd (omega arith); place = inl (refl, refl) }
-
-  pub start_take : {best at s d : ℕ} → Back R s d → d < best → Sofar R n best at s → Sofar R n d s (s + 1)
-  start_take {best} {at} {s} {d} b l f = record {
-    small = b.low;
-    low = λ a xs h w. tri a s (λ g. omega (arith, f.low a xs g w)) (λ e. b.complete xs (subst (λ (z : ℕ). Walk R z xs z) e w)) (λ g. absurd (omega arith));
-    place = inr (omega arith, (omega (arith, f.small), (b, λ a xs h w. omega (arith, f.low a xs h w))));
-  }
-
-  pub start_keep : {best at s d : ℕ} → Back R s d → best ≤ d → Sofar R n best at s → Sofar R n best at (s + 1)
-  start_keep {best} {at} {s} {d} b l f = record {
-    small = f.small;
-    low = λ a xs h w.
-        tri a s (λ g. f.low a xs g w) (λ e. omega (arith, b.complete xs (subst (λ (z : ℕ). Walk R z xs z) e w))) (λ g. absurd (omega arith));
-    place = ⊎_elim inl (λ (h, rest). inr (omega arith, rest)) f.place;
-  }
-
-  pub start_end : {best at : ℕ} → Sofar R n best at n → StartOf R n at
-  start_end {best} {at} f = go f.place
-    where
-      go : ((at ≡ n) × (best ≡ 255)) ⊎ ((at < n) × ((best < 255) × (Back R at best × ((a : ℕ) (xs : List ℕ) → a < at → Walk R a xs a → best < length xs + 1)))) → StartOf R n at
-      go (inl (e, b)) = record { within = omega arith; none = λ q a xs h w. omega (arith, f.low a xs h w); there = λ h. absurd (omega arith) }
-      go (inr (h, (l, (b, first)))) =
-          record { within = omega arith; none = λ q. absurd (omega arith); there = λ g. record { best = best; some = l; back = b; few = f.low; first = first } }
+  pub place : MatchOption at (best ≡ 255) (λ z. (z < s) × ((best < 255) × (Back R z best × ((a : ℕ) (xs : List ℕ) → a < z → Walk R a xs a → best < length xs + 1))))
 
 module _ {R : Rel} {n s : ℕ} {d : List ℕ} (on : Within n R) (sh : StepsTo R n s d) where
-  pub back_of : s < n → Back R s (entry d s)
-  back_of l = record { low = sh.low s l; sound = sh.sound s l; complete = sh.complete s }
-
   -- ---- the way
 
   -- one step on, with a walk of k steps left, where the fewest are k + 1: the entry is k
@@ -66,21 +34,18 @@ module _ {R : Rel} {n s : ℕ} {d : List ℕ} (on : Within n R) (sh : StepsTo R 
       let z = sh.sound y (on.right r) (omega arith) in
       omega (arith, z.long, sh.complete a (y ∷ z.by) (r, z.walk))
 
-  module _ {a i len x : ℕ} (ha : a < n) (small : len < 255) (q : entry d a + i ≡ len + 1) where
-    pub next_there : i < len → 1 ≤ i → NextOf R n d a (len - i) x → x < n
-    next_there hi h1 f = go (dec_lt x n)
+  module _ {a i len : ℕ} (ha : a < n) (small : len < 255) (q : entry d a + i ≡ len + 1) where
+    pub next_there : (x : Option ℕ) → i < len → 1 ≤ i → NextOf R n d a (len - i) x → IsSome x
+    next_there (Some x) hi h1 f = refl
+    next_there None hi h1 never = let z = sh.sound a ha (omega arith) in absurd (found z.by z.walk z.long)
       where
-        found : (xs : List ℕ) → Walk R a xs s → length xs + 1 ≡ entry d a → n ≤ x → ⊥
-        found [] w e no_x = omega arith
-        found (y ∷ ys) w e no_x = f.before y (omega (arith, on.right w.0)) w.0 (exact ys w.0 w.1 (omega arith) (omega arith) (omega arith))
-
-        go : Dec (x < n) → x < n
-        go (yes h) = h
-        go (no h) = let z = sh.sound a ha (omega arith) in absurd (found z.by z.walk z.long (omega arith))
+        found : (xs : List ℕ) → Walk R a xs s → length xs + 1 ≡ entry d a → ⊥
+        found [] w e = omega arith
+        found (y ∷ ys) w e = never y (on.right w.0) w.0 (exact ys w.0 w.1 (omega arith) (omega arith) (omega arith))
 
     pub writing_more :
-        {before out : List ℕ} → i < len → 1 ≤ i → i < length before → NextOf R n d a (len - i) x → Writing R s len before out a i → Writing R s len before (set out i x) x (i + 1)
-    writing_more {before} {out} hi h1 room f w = writing_on room (f.hit (next_there hi h1 f)).0 (λ y xs r v e. first y xs r v e (dec_lt y x)) w
+        {x : ℕ} {before out : List ℕ} → i < len → 1 ≤ i → i < length before → IsNext R n d a (len - i) x → Writing R s len before out a i → Writing R s len before (set out i x) x (i + 1)
+    writing_more {x} {before} {out} hi h1 room f w = writing_on room f.step (λ y xs r v e. first y xs r v e (dec_lt y x)) w
       where
         first : (y : ℕ) (xs : List ℕ) → R a y → Walk R y xs s → length xs + 1 + i ≡ len → Dec (y < x) → x ≤ y
         first y xs r v e (yes l) = absurd (f.before y l r (exact xs r v (omega arith) (omega arith) (omega arith)))
@@ -122,17 +87,17 @@ module _ {R : Rel} {n s : ℕ} {d : List ℕ} (on : Within n R) (sh : StepsTo R 
         let apart = different R (length z.by) (λ c xs w. omega (arith, z.long, few c xs w)) s z.by s z.walk (omega arith) in
         omega (arith, z.long, at_most n (s ∷ z.by) apart (hs, walk_below R n (λ a b r. on.right r) s z.by s z.walk))
 
-    pub found : {l : List ℕ} → LeastTail R s s (entry d s) l → LeastCycle R (some (s ∷ l))
+    pub found : {l : List ℕ} → LeastTail R s s (entry d s) l → LeastCycle R (Some (s ∷ l))
     found t = least_closed_walk R t few (λ a xs w e. first a xs w e (dec_lt a s))
       where
         first : (a : ℕ) (xs : List ℕ) → Walk R a xs a → length xs + 1 ≡ entry d s → Dec (a < s) → s ≤ a
         first a xs w e (yes l) = absurd (omega (arith, f.first a xs l w, as_best))
         first a xs w e (no l) = omega arith
 
-pub nothing : {R : Rel} {n s : ℕ} → Within n R → StartOf R n s → n ≤ 254 → n ≤ s → LeastCycle R none
-nothing {R} {n} {s} on f small h = Least.absent no_cycle
+pub nothing : {R : Rel} {n : ℕ} → Within n R → n ≤ 254 → StartOf R n None → LeastCycle R None
+nothing {R} {n} on small none_back = Least.absent no_cycle
   where
     no_cycle : (c : List ℕ) → ¬ IsCycle R c
     no_cycle [] c = c
     no_cycle (a ∷ xs) c =
-        omega (arith, cycle_fits R n on (a ∷ xs) c, f.none (omega (arith, f.within)) a xs (walk_starts R on a xs a c.1) c.1)
+        omega (arith, cycle_fits R n on (a ∷ xs) c, none_back a xs (walk_starts R on a xs a c.1) c.1)

@@ -1,76 +1,21 @@
 -- Rows of bytes and layers of entries, for any relation on the numbers below n.
-use mathlib.Core.Path.{◌≡◌, refl, sym, subst, ap, ◌∙◌}
-use mathlib.Core.Bool.{Bool, true, false}
+use mathlib.Core.Path.{◌≡◌, sym, subst, ap, ◌∙◌}
+use mathlib.Core.Bool.{Bool, false}
 use mathlib.Core.List.{List, [], ◌∷◌}
 use mathlib.Core.Logic.{◌⊎◌, inl, inr, ⊎_elim}
 use Prim.Native.Nat.{ℕ, ◌+◌, ◌<◌, ◌≤◌}
 use native.Mathlib.Omega.{arith}
 use native.Mathlib.Decide.{ℕ_discrete, dec_lt}
-use lib.ListN.{length, set, length-set}
-use lib.Seq.{get_or-set_other}
+use lib.ListN.{length, get_or}
 use Rattle.laws.specs.Says.{Says}
+use Rattle.laws.proofs.Says.{said, denied}
 use Rattle.laws.specs.Steps.{Rel, Walk}
 use Rattle.laws.proofs.Closure.{tri}
 use Rattle.laws.proofs.Steps.{Within}
 use Rattle.laws.proofs.Walks.{walk_starts}
 use Rattle.cycle.specs.Distances.{Reaches}
-use Rattle.cycle.proofs.Entries.{after}
-use Rattle.tracing.specs.Layers.{entry, flag_of, Flagged, Nearer, Empty, Spread, StepsTo, Layer, Round}
-
--- ---- the loops over one row
-
--- one entry more is written: each of the first i + 1 is the new one, or one of those before
-set_more :
-    (P : ℕ → ℕ → Type 0) (e : List ℕ) (i v : ℕ) → i < length e → P i v → ((x : ℕ) → x < i → P x (entry e x)) → (x : ℕ) → x < i + 1
-    → P x (entry (set e i v) x)
-set_more P e i v room new old x l = ⊎_elim here other (after e i x v room)
-  where
-    here : (x ≡ i) × (entry (set e i v) x ≡ v) → P x (entry (set e i v) x)
-    here (h, q) = subst (P x) (sym q) (subst (λ (z : ℕ). P z v) (sym h) new)
-
-    other : ¬ (x ≡ i) × (entry (set e i v) x ≡ entry e x) → P x (entry (set e i v) x)
-    other (h, q) = subst (P x) (sym q) (old x (omega (arith, h)))
-
-pub empty_none : {d : List ℕ} → Empty 0 d d
-empty_none = record { size = refl; none = λ x l. absurd (omega arith) }
-
-pub empty_more : {i : ℕ} {d e : List ℕ} → i < length d → Empty i d e → Empty (i + 1) d (set e i 255)
-empty_more {i} {d} {e} room p =
-    record { size = simp length-set p.size; none = set_more (λ x q. q ≡ 255) e i 255 (omega (arith, p.size)) refl p.none }
-
-pub spread_none : {k : ℕ} {col d : List ℕ} → Spread 0 k col d d
-spread_none = record { size = refl; at = λ x l. absurd (omega arith); past = λ x l. refl }
-
-pub spread_more :
-    {i k v : ℕ} {col d e : List ℕ} → i < length d → Nearer (entry e i) (entry col i) k v → Spread i k col d e → Spread (i + 1) k col d (set e i v)
-spread_more {i} {k} {v} {col} {d} {e} room n p = record {
-  size = simp length-set p.size;
-  at =
-      set_more (λ x q. Nearer (entry d x) (entry col x) k q) e i v (omega (arith, p.size)) (rw (p.past i (omega arith)) at n) p.at;
-  past = λ x l. get_or-set_other e i x v 0 (λ q. omega (arith, q)) ∙ p.past x (omega arith);
-}
-
-pub flagged_none : {P : ℕ → Type 0} {d : List ℕ} → Flagged P 0 d d
-flagged_none = record { size = refl; one = λ x l. absurd (omega arith); only = λ x l. absurd (omega arith) }
-
-module _ {P : Type 0} where
-  flag_one : {r : Bool} → Says r P → P → flag_of r ≡ 1
-  flag_one {r = true} s p = refl
-  flag_one {r = false} s p = absurd (s.from p)
-
-  flag_only : {r : Bool} → Says r P → flag_of r ≡ 1 → P
-  flag_only {r = true} s e = s.to tt
-  flag_only {r = false} s e = absurd (omega arith)
-
-pub flagged_more :
-    {P : ℕ → Type 0} {i : ℕ} {r : Bool} {d e : List ℕ} → i < length d → Says r (P i) → Flagged P i d e → Flagged P (i + 1) d (set e i (flag_of r))
-flagged_more {P} {i} {r} {d} {e} room s p =
-    let inside : i < length e = omega (arith, p.size) in
-    record {
-      size = simp length-set p.size;
-      one = set_more (λ x q. P x → q ≡ 1) e i (flag_of r) inside (flag_one s) p.one;
-      only = set_more (λ x q. q ≡ 1 → P x) e i (flag_of r) inside (flag_only s) p.only;
-    }
+use Rattle.limits.specs.Limit.{limit}
+use Rattle.tracing.specs.Layers.{entry, Column, Nearer, Spread, StepsTo, Layer}
 
 -- ---- one column spread
 
@@ -79,51 +24,51 @@ data Grown (P : Type 0) (k d e : ℕ) : Type 0 where
   new : d ≡ 255 → P → e ≡ k → Grown P k d e
   same : e ≡ d → Grown P k d e
 
-module _ {P : ℕ → Type 0} {n k : ℕ} {col₀ col d e : List ℕ} (f : Flagged P n col₀ col) (p : Spread n k col d e) where
+module _ {P : ℕ → Type 0} {n k : ℕ} {col : List Bool} {d e : List ℕ} (few : n ≤ limit) (f : (x : ℕ) → x < n → Says (get_or col x false) (P x)) (p : Spread limit k col d e) where
   grown : (x : ℕ) → x < n → Grown (P x) k (entry d x) (entry e x)
   grown x l =
-      elim (p.at x l) [ Nearer.reached h c r ↦ new h (f.only x l c) r | Nearer.had h r ↦ same r | Nearer.no_step h r ↦ same r ]
+      elim (p.at x (omega arith)) [ Nearer.reached h c r ↦ new h (said (f x l) c) r | Nearer.had h r ↦ same r | Nearer.no_step c r ↦ same r ]
 
   -- whatever has a step has an entry
   grown_step : (x : ℕ) → x < n → P x → (entry e x ≡ k) ⊎ (¬ (entry d x ≡ 255) × (entry e x ≡ entry d x))
   grown_step x l q =
-      elim (p.at x l) [ Nearer.reached h c r ↦ inl r | Nearer.had h r ↦ inr (h, r) | Nearer.no_step h r ↦ absurd (h (f.one x l q)) ]
+      elim (p.at x (omega arith)) [ Nearer.reached h c r ↦ inl r | Nearer.had h r ↦ inr (h, r) | Nearer.no_step c r ↦ absurd (denied (f x l) c q) ]
 
-module _ {R : Rel} {n : ℕ} (on : Within n R) where
+module _ {R : Rel} {n : ℕ} (on : Within n R) (few : n ≤ limit) where
   one_more : {x v s j : ℕ} → R x v → Reaches R v s j → Reaches R x s (j + 1)
   one_more {v = v} r z = record { by = v ∷ z.by; walk = (r, z.walk); long = omega (arith, z.long) }
 
   -- the first layer
   pub layer_first :
-      {s : ℕ} {col₀ col d₀ d e : List ℕ} → Empty n d₀ d → Flagged (λ x. R x s) n col₀ col → Spread n 1 col d e → Layer R n s 1 0 e
-  layer_first {s} {d = d} {e = e} z f p = record {
-    low = λ x l. low x l (grown f p x l);
-    sound = λ x l h. sound x l h (grown f p x l);
+      {s : ℕ} {col : List Bool} {d e : List ℕ} → ((x : ℕ) → x < n → entry d x ≡ 255) → Column R n s col → Spread limit 1 col d e → Layer R n s 1 0 e
+  layer_first {s} {d = d} {e = e} none f p = record {
+    low = λ x l. low x l (grown few f p x l);
+    sound = λ x l h. sound x l h (grown few f p x l);
     complete = complete;
     asked = λ x v l. absurd (omega arith);
   }
     where
       low : (x : ℕ) → x < n → Grown (R x s) 1 (entry d x) (entry e x) → (entry e x ≤ 2) ⊎ (entry e x ≡ 255)
       low x l (new h r q) = inl (omega arith)
-      low x l (same q) = inr (q ∙ z.none x l)
+      low x l (same q) = inr (q ∙ none x l)
 
       sound : (x : ℕ) → x < n → entry e x < 255 → Grown (R x s) 1 (entry d x) (entry e x) → Reaches R x s (entry e x)
       sound x l h (new g r q) = record { by = []; walk = r; long = sym q }
-      sound x l h (same q) = absurd (omega (arith, z.none x l))
+      sound x l h (same q) = absurd (omega (arith, none x l))
 
       complete : (x : ℕ) (xs : List ℕ) → Walk R x xs s → length xs + 1 ≤ 1 → entry e x ≤ length xs + 1
       complete x [] w h =
-          ⊎_elim (λ q. omega arith) (λ y. absurd (y.0 (z.none x (on.left w)))) (grown_step f p x (on.left w) w)
+          ⊎_elim (λ q. omega arith) (λ y. absurd (y.0 (none x (on.left w)))) (grown_step few f p x (on.left w) w)
       complete x (y ∷ ys) w h = absurd (omega arith)
 
   -- one record more of layer k
-  layer_asked :
-      {s k y : ℕ} {col₀ col d e : List ℕ} → k < 254 → y < n → entry d y ≡ k → Flagged (λ x. R x y) n col₀ col → Spread n (k + 1) col d e → Layer R n s k y d
+  pub layer_asked :
+      {s k y : ℕ} {col : List Bool} {d e : List ℕ} → k < 254 → y < n → entry d y ≡ k → Column R n y col → Spread limit (k + 1) col d e → Layer R n s k y d
       → Layer R n s k (y + 1) e
   layer_asked {s} {k} {y} {d = d} {e = e} small hy at f p a = record {
-    low = λ x l. low x l (grown f p x l);
-    sound = λ x l h. sound x l h (grown f p x l);
-    complete = λ x xs w h. let l = walk_starts R on x xs s w in complete x xs w h (grown f p x l);
+    low = λ x l. low x l (grown few f p x l);
+    sound = λ x l h. sound x l h (grown few f p x l);
+    complete = λ x xs w h. let l = walk_starts R on x xs s w in complete x xs w h (grown few f p x l);
     asked = λ x v l q r. asked x v l q r (on.left r) (on.right r) (ℕ_discrete v y);
   }
     where
@@ -150,12 +95,12 @@ module _ {R : Rel} {n : ℕ} (on : Within n R) where
       kept x h (same q) = omega arith
 
       asked : (x v : ℕ) → v < y + 1 → entry e v ≡ k → R x v → x < n → v < n → Dec (v ≡ y) → entry e x ≤ k + 1
-      asked x v l q r hx hv (no ne) = kept x (a.asked x v (omega arith) (was v q (grown f p v hv)) r) (grown f p x hx)
+      asked x v l q r hx hv (no ne) = kept x (a.asked x v (omega arith) (was v q (grown few f p v hv)) r) (grown few f p x hx)
       asked x v l q r hx hv (yes h) =
           ⊎_elim (λ z. omega arith) (λ (ne, z). ⊎_elim (λ m. omega arith) (λ m. absurd (ne m)) (a.low x hx))
-          (grown_step f p x hx (subst (R x) h r))
+          (grown_step few f p x hx (subst (R x) h r))
 
-  layer_passed : {s k y : ℕ} {d : List ℕ} → ¬ (entry d y ≡ k) → Layer R n s k y d → Layer R n s k (y + 1) d
+  pub layer_passed : {s k y : ℕ} {d : List ℕ} → ¬ (entry d y ≡ k) → Layer R n s k y d → Layer R n s k (y + 1) d
   layer_passed {k = k} {y = y} {d = d} ne a = record {
     low = a.low;
     sound = a.sound;
@@ -196,20 +141,3 @@ module _ {R : Rel} {n : ℕ} (on : Within n R) where
       by : (x : ℕ) (xs : List ℕ) → Walk R x xs s → Dec (254 < length xs + 1) → entry d x ≤ length xs + 1
       by x xs w (yes h) = omega (arith, low x (walk_starts R on x xs s w))
       by x xs w (no h) = a.complete x xs w (omega arith)
-
--- ---- a round
-
-pub round_none : {R : Rel} {n k y : ℕ} {d : List ℕ} → Round R n k y y d d
-round_none = record { size = refl; next = λ s a. a }
-
-pub round_more :
-    {R : Rel} {n k y z u : ℕ} {d e f : List ℕ} → Round R n k y z d e → Round R n k z u e f → Round R n k y u d f
-round_more p q = record { size = q.size ∙ p.size; next = λ s a. q.next s (p.next s a) }
-
-module _ {R : Rel} {n k y : ℕ} (on : Within n R) {d : List ℕ} where
-  pub round_asked :
-      {col₀ col e : List ℕ} → k < 254 → y < n → entry d y ≡ k → Flagged (λ x. R x y) n col₀ col → Spread n (k + 1) col d e → Round R n k y (y + 1) d e
-  round_asked small hy at f q = record { size = q.size; next = λ s a. layer_asked on small hy at f q a }
-
-  pub round_passed : ¬ (entry d y ≡ k) → Round R n k y (y + 1) d d
-  round_passed ne = record { size = refl; next = λ s a. layer_passed on ne a }

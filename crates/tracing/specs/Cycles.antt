@@ -1,19 +1,9 @@
 -- The search for a least cycle with one row of entries.
-use Rattle.std.specs.Prelude.{◌≡◌, List, ℕ, ◌+◌, ◌<◌, ◌≤◌, length}
+use Rattle.std.specs.Prelude.{◌≡◌, List, ℕ, ◌+◌, ◌<◌, ◌≤◌, length, Option, MatchOption}
 use Rattle.laws.specs.Steps.{Rel, Walk}
 use Rattle.cycle.specs.Distances.{Reaches}
-use Rattle.model.specs.Table.{Table}
-use Rattle.model.specs.Relations.{Wb0, ScStep}
-use Rattle.table.specs.Events.{events_of}
 use Rattle.facts.specs.Sound.{Counted}
-use Rattle.tracing.specs.declared.cycles.Steps.{Steps}
-use Rattle.tracing.specs.declared.cycles.Steps.TheVariants as steps
 use Rattle.tracing.specs.Layers.{entry, StepsTo}
-
--- the relation of which a cycle is looked for
-abbrev pub step_of : Steps → Table → ℕ → ℕ → Type 0
-step_of steps.Wb0 = Wb0
-step_of steps.Sc = ScStep
 
 -- k is the least number of steps from s back to s, 255 for none
 pub record Back (R : Rel) (s k : ℕ) : Type 0 where
@@ -29,33 +19,28 @@ pub record Chosen (R : Rel) (m s : ℕ) : Type 0 where
   pub few : (a : ℕ) (xs : List ℕ) → a < m → Walk R a xs a → best ≤ length xs + 1
   pub first : (a : ℕ) (xs : List ℕ) → a < s → Walk R a xs a → best < length xs + 1
 
--- such a record, or n
-pub record StartOf (R : Rel) (n s : ℕ) : Type 0 where
-  pub within : s ≤ n
-  pub none : s ≡ n → (a : ℕ) (xs : List ℕ) → a < n → Walk R a xs a → 255 ≤ length xs + 1
-  pub there : s < n → Chosen R n s
+-- such a record, or none
+abbrev pub StartOf : Rel → ℕ → Option ℕ → Type 0
+StartOf R n start =
+    MatchOption start ((a : ℕ) (xs : List ℕ) → a < n → Walk R a xs a → 255 ≤ length xs + 1) (λ s. (s < n) × Chosen R n s)
 
--- the first record with a step from a and the entry k, or n
-pub record NextOf (R : Rel) (n : ℕ) (d : List ℕ) (a k x : ℕ) : Type 0 where
-  pub within : x ≤ n
-  pub hit : x < n → R a x × (entry d x ≡ k)
+-- x is the first record with a step from a and the entry k
+pub record IsNext (R : Rel) (n : ℕ) (d : List ℕ) (a k x : ℕ) : Type 0 where
+  pub inside : x < n
+  pub step : R a x
+  pub is : entry d x ≡ k
   pub before : (y : ℕ) → y < x → R a y → ¬ (entry d y ≡ k)
 
--- ---- what the functions ask
+-- such a record, or none
+abbrev pub NextOf : Rel → ℕ → List ℕ → ℕ → ℕ → Option ℕ → Type 0
+NextOf R n d a k next = MatchOption next ((y : ℕ) → y < n → R a y → ¬ (entry d y ≡ k)) (IsNext R n d a k)
 
--- a record of a sound table, and a row of entries
-pub record Choosing (bytes : List ℕ) (n a : ℕ) (d : List ℕ) : Type 0 where
+-- what writing a cycle asks: a start, the fewest steps to it, their number back to itself, and room for so many
+pub record Writes (R : Rel) (bytes : List ℕ) (n s len : ℕ) (d out : List ℕ) : Type 0 where
   pub table : Counted bytes n
-  pub inside : a < n
-  pub entries : n ≤ length d
-
--- a start, the fewest steps to it, their number back to itself, and room for so many
-pub record Writes (which : Steps) (bytes : List ℕ) (n s len : ℕ) (d out : List ℕ) : Type 0 where
-  pub table : Counted bytes n
-  pub entries : n ≤ length d
   pub start : s < n
   pub is : entry d s ≡ len
   pub small : len < 255
   pub some : 0 < len
   pub room : len ≤ length out
-  pub steps : StepsTo (step_of which (events_of bytes)) n s d
+  pub steps : StepsTo R n s d

@@ -1,46 +1,69 @@
-// How many steps it takes to one record: a row of n bytes of working room, filled layer by layer. 255 is none.
-ghost use Rattle.std.specs.Prelude.{◌≡◌, ◌≤◌, length};
-ghost use Rattle.tracing.specs.Layers.{flag_of, Nearer, Spread, Empty};
+// How many steps it takes to one record: a byte for each record, found layer by layer.
+ghost use Rattle.std.specs.Prelude.{List, ℕ, ◌<◌, ◌+◌};
+ghost use Rattle.laws.specs.Says.{Says};
+ghost use Rattle.laws.specs.Steps.{Rel};
+ghost use Rattle.laws.proofs.Steps.{Within};
+ghost use Rattle.model.specs.Table.{Table};
+ghost use Rattle.table.specs.Events.{events_of};
+ghost use Rattle.limits.specs.Limit.{limit};
+ghost use Rattle.facts.specs.Sound.{Counted, Placed};
+ghost use Rattle.tracing.specs.Layers.{Column, Spread, Round, StepsTo, Numbered};
 
-// No number of steps.
+use limits::LIMIT;
+
+// No number of steps: a byte above all others, so that fewer is one comparison, as it would not be of `Option<u8>`.
 pub const NONE: u8 = 255;
 
-// A byte that says yes or no.
-pub fn flag(is: bool) -> u8
-    ensures { result ≡ flag_of is }
-{
-    if is { 1 } else { 0 }
-}
+// A relation of which a cycle is looked for.
+pub trait Steps {
+    ghost step: { Table → Rel };
 
-// The entry d, or k if there is none and c says that there is a step.
-fn nearer(d: u8, c: u8, k: u8) -> u8
-    ensures { Nearer d c k result }
-{
-    if d != NONE {
-        return d;
-    }
-    if c != 1 {
-        return d;
-    }
-    k
-}
+    // Whether a steps to b.
+    fn is_step(table: &[u8], n: usize, a: usize, b: usize) -> bool
+        requires { Placed table.now n a b }
+        ensures { Says result (step (events_of table.now) a b) };
 
-// No record has an entry.
-pub fn clear(n: usize, dist: &mut [u8])
-    requires { n ≤ length dist.old }
-    ensures { Empty n dist.old dist.new }
-{
-    for x in 0..n {
-        dist[x] = NONE;
-    }
+    // Which records step to y.
+    fn column(table: &[u8], n: usize, y: usize) -> [bool; LIMIT]
+        requires { Numbered table.now n y }
+        ensures { Column (step (events_of table.now)) n y result };
+
+    // Only records step, and only to records.
+    ghost among: { (bytes : List ℕ) (n : ℕ) → Counted bytes n → Within n (step (events_of bytes)) };
 }
 
 // Each record that the column names and that has no entry gets k.
-pub fn spread(col: &[u8], n: usize, k: u8, dist: &mut [u8])
-    requires { (n ≤ length col.now) × (n ≤ length dist.old) }
-    ensures { Spread n k col.now dist.old dist.new }
+fn spread(col: &[bool; LIMIT], k: u8, dist: &mut [u8; LIMIT])
+    ensures { Spread limit k col.now dist.old dist.new }
 {
-    for x in 0..n {
-        dist[x] = nearer(dist[x], col[x], k);
+    for (x, d) in dist.iter_mut().enumerate() {
+        if col[x] && *d == NONE {
+            *d = k;
+        }
     }
+}
+
+// The layer after layer k: what is one step from a record of layer k, and in no layer yet.
+fn round<S: Steps>(table: &[u8], n: usize, k: u8, dist: &mut [u8; LIMIT])
+    requires { Counted table.now n × (k < 254) }
+    ensures { Round (S.step (events_of table.now)) n k 0 n dist.old dist.new }
+{
+    for y in 0..n {
+        if dist[y] == k {
+            spread(&S::column(table, n, y), k + 1, dist);
+        }
+    }
+}
+
+// The fewest steps to s.
+pub fn steps_to<S: Steps>(table: &[u8], n: usize, s: usize) -> [u8; LIMIT]
+    requires { Numbered table.now n s }
+    ensures { StepsTo (S.step (events_of table.now)) n s result }
+{
+    let mut dist = [NONE; LIMIT];
+    spread(&S::column(table, n, s), 1, &mut dist);
+    for k in 1..254 {
+        round::<S>(table, n, k, &mut dist);
+    }
+    dist
 }

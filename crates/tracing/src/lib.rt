@@ -3,6 +3,6 @@
 
 mod around;
 pub mod cycles;
-mod layers;
-mod sequential;
-mod writes;
+pub mod layers;
+pub mod sequential;
+pub mod writes;

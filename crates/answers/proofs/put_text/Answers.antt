@@ -4,10 +4,10 @@ use Rattle.answers.proofs.Placing.{never_refused, fits_there, put_there}
 use Rattle.answers.proofs.put_text.Goals as goal
 
 pub overflow_add-result : goal.overflow_add-result
-overflow_add-result c = omega (arith, fits_there c.args.table.now c.args.out.now c.args.at c.requires c.write_answer.ensures c.in-Length.is)
+overflow_add-result c = omega (arith, fits_there c.args.table.now c.args.out.now c.args.at c.requires c.write_answer.ensures c.in-Ok.is)
 
-pub returns-in-Length : goal.returns-in-Length
-returns-in-Length c = put_there c.args.table.now c.args.out.now c.args.at c.requires c.write_answer.ensures c.in-Length.is
+pub returns-in-Ok : goal.returns-in-Ok
+returns-in-Ok c = put_there c.args.table.now c.args.out.now c.args.at c.requires c.write_answer.ensures c.in-Ok.is
 
-pub returns-in-Refused : goal.returns-in-Refused
-returns-in-Refused c = never_refused c.args.table.now c.args.out.now c.args.at c.requires c.write_answer.ensures c.in-Refused.is
+pub returns-in-Err : goal.returns-in-Err
+returns-in-Err c = never_refused c.args.table.now c.args.out.now c.args.at c.requires c.write_answer.ensures c.in-Err.is

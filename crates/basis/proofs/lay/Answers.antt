@@ -1,25 +1,11 @@
 -- `lay` meets its contract: hb by steps, conflict, and with both the races.
-use Rattle.rows.proofs.Rows.{made_iff, made_room, room_kept}
+use Rattle.rows.proofs.Rows.{made_iff}
 use Rattle.columns.proofs.Before.{hb_told, told_hb}
 use Rattle.columns.proofs.Races.{races_told, told_races, races_by}
 use Rattle.basis.proofs.lay.Goals as goal
 
-pub races-requires : goal.races-requires
-races-requires c = let pre = c.requires in (
-  record {
-    placed = pre.1.placed;
-    orders = pre.1.orders;
-    for_hb = made_room pre.1.for_hb c.before-2.ensures;
-    for_cf = room_kept c.lay_conflict.auto.cf pre.0.for_cf;
-    for_at = pre.1.for_at;
-    for_na = pre.1.for_na;
-  },
-  pre.1.kinds,
-  pre.1.for_race,
-)
-
 pub returns : goal.returns
-returns c = λ t g.
+returns g c = λ t g.
     let hb = made_iff (λ a b l. hb_told g.known g.parents g.syncs l) (λ a b l. told_hb g.known g.parents g.syncs l) c.before-2.ensures in
     let cf = c.lay_conflict.ensures t g.known g.parents g.arms in
     record {

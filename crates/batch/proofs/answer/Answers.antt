@@ -18,5 +18,5 @@ pub loop-judged-smaller : goal.loop-judged-smaller
 loop-judged-smaller _ c = let w = can_be_written _ _ c.judge_at.ensures (roomy c.loop-judged.invariant) c.in-Answered.is in
     omega (arith, w.further, w.within)
 
-pub say-requires-in-Refused : goal.say-requires-in-Refused
-say-requires-in-Refused _ c = (line_short _ _ c.judge_at.ensures c.in-Ended.is c.in-Refused.is, no_cycles)
+pub say-requires-in-Err : goal.say-requires-in-Err
+say-requires-in-Err _ c = (line_short _ _ c.judge_at.ensures c.in-Ended.is c.in-Err.is, no_cycles)

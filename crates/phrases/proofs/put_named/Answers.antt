@@ -8,17 +8,17 @@ use Rattle.phrases.proofs.put_named.Goals as goal
 
 pub put-word-requires : goal.put-word-requires
 put-word-requires c = let a = c.args in
-    room_front a.out.now a.at byte_word (spaced c.in-Named.i) (room_as byte_text a.out.now a.at c.in-Named.is c.requires)
+    room_front a.out.now a.at byte_word (spaced c.in-Some.i) (room_as byte_text a.out.now a.at c.in-Some.is c.requires)
 
 pub put_spaced-requires : goal.put_spaced-requires
 put_spaced-requires c = let a = c.args in
-    room_back (spaced c.in-Named.i) (room_as byte_text a.out.now a.at c.in-Named.is c.requires) c.put-word.ensures
+    room_back (spaced c.in-Some.i) (room_as byte_text a.out.now a.at c.in-Some.is c.requires) c.put-word.ensures
 
-pub returns-in-Unnamed : goal.returns-in-Unnamed
-returns-in-Unnamed c = let a = c.args in
-    written_text (ap byte_text (sym c.in-Unnamed.is)) (written_nothing a.out.now a.at)
+pub returns-in-None : goal.returns-in-None
+returns-in-None c = let a = c.args in
+    written_text (ap byte_text (sym c.in-None.is)) (written_nothing a.out.now a.at)
 
-pub returns-in-Named : goal.returns-in-Named
-returns-in-Named c = let a = c.args in
-    written_text (ap byte_text (sym c.in-Named.is))
-    (written_then (room_as byte_text a.out.now a.at c.in-Named.is c.requires) c.put-word.ensures c.put_spaced.ensures)
+pub returns-in-Some : goal.returns-in-Some
+returns-in-Some c = let a = c.args in
+    written_text (ap byte_text (sym c.in-Some.is))
+    (written_then (room_as byte_text a.out.now a.at c.in-Some.is c.requires) c.put-word.ensures c.put_spaced.ensures)

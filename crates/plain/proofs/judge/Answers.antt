@@ -1,5 +1,6 @@
 -- `judge` meets its contract: "1, 11, then records".
 use mathlib.Core.Path.{refl}
+use borrow.Author.Rules.{rules}
 use Rattle.laws.proofs.Says.{said, denied, says_is}
 use Rattle.table.proofs.Front.{front_whole, records_test}
 use Rattle.facts.proofs.Promise.{counted}
@@ -17,14 +18,15 @@ returns-then-not-has_room c =
 pub report_of-requires : goal.report_of-requires
 report_of-requires c = let right = said (says_is c.length_ok.ensures) c.if-not-length_ok.false in
     let roomy = said (room_told _ _ c.has_room.ensures) c.if-not-has_room.false in
-    (counted _ _ (records_test _ right c.in-Sound.ensures), roomy)
+    (counted _ _ (records_test _ right c.in_ok-n.ensures), roomy)
 
-pub returns-in-Sound : goal.returns-in-Sound
-returns-in-Sound c = let right = said (says_is c.length_ok.ensures) c.if-not-length_ok.false in
+pub returns : goal.returns
+returns c = let right = said (says_is c.length_ok.ensures) c.if-not-length_ok.false in
     let roomy = said (room_told _ _ c.has_room.ensures) c.if-not-has_room.false in
-    reported right roomy (rw (front_whole _ right) at c.in-Sound.ensures) c.report_of.ensures
+    reported right roomy (rw (front_whole _ right) at c.in_ok-n.ensures) c.report_of.ensures
 
-pub returns-in-Refused : goal.returns-in-Refused
-returns-in-Refused c = let right = said (says_is c.length_ok.ensures) c.if-not-length_ok.false in
+pub returns-in_err-n : goal.returns-in_err-n
+returns-in_err-n c = let right = said (says_is c.length_ok.ensures) c.if-not-length_ok.false in
     let roomy = said (room_told _ _ c.has_room.ensures) c.if-not-has_room.false in
-    refused (bad_record right roomy (rw (front_whole _ right) at c.in-Refused.ensures))
+    let same = refused (bad_record right roomy (rw (front_whole _ right) at c.in_err-n.ensures)) in
+    search (rules, same)

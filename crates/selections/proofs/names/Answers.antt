@@ -1,6 +1,5 @@
 -- `names` meets its contract: it is the definition, read at its byte and bit.
 use mathlib.Core.Path.{refl}
-use borrow.Author.Rules.{rules}
 use Rattle.selections.proofs.names.Goals as goal
 
 pub returns : goal.returns

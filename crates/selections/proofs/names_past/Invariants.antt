@@ -1,14 +1,10 @@
 -- `names_past` meets its contract: the numbers below n have been asked, and no other is named.
-use mathlib.Core.Path.{◌≡◌, refl}
+use mathlib.Core.Path.{◌≡◌}
 use mathlib.Core.Bool.{◌&&◌}
 use Prim.Native.Nat.{◌*◌, ◌-◌, ◌≤◌}
-use native.Mathlib.Numerals.{add-one}
-use native.Mathlib.Omega.{arith}
 use lib.Dec.{leb}
 use Rattle.laws.specs.Says.{any_below}
-use Rattle.laws.proofs.Says.{says_T, says_le, says_and, says_any}
 use Rattle.selections.specs.Selection.{selection_size, named}
-use Rattle.selections.proofs.Naming.{named_inside}
 use Rattle.selections.proofs.names_past.Given as goal
 
 abbrev pub invariant-loop-n : goal.invariant-loop-n

@@ -1,5 +1,4 @@
 -- `refused` meets its contract: nothing is named, or something at or past the count; or the size is another.
-use borrow.Author.Rules.{rules}
 use Rattle.laws.proofs.Says.{says_yes}
 use Rattle.selections.specs.Selection.{other_size}
 use Rattle.selections.proofs.Naming.{refused_told}

@@ -6,11 +6,11 @@ use Rattle.table.specs.Test.{length_ok, wrong_length}
 use Rattle.table.proofs.Front.{records_test}
 use Rattle.table.proofs.test.Goals as goal
 
-pub returns-then-length_ok : goal.returns-then-length_ok
-returns-then-length_ok c = let b = c.args.table.now in
-    let right = said (says_T (length_ok (length b))) (sym c.length_ok.ensures ∙ c.if-length_ok.true) in
-    records_test b right c.test_records.ensures
+pub returns-then-not-length_ok : goal.returns-then-not-length_ok
+returns-then-not-length_ok c = let b = c.args.table.now in
+    wrong_length (denied (says_T (length_ok (length b))) (sym c.length_ok.ensures ∙ c.if-not-length_ok.true)) refl
 
-pub returns-else-length_ok : goal.returns-else-length_ok
-returns-else-length_ok c = let b = c.args.table.now in
-    wrong_length (denied (says_T (length_ok (length b))) (sym c.length_ok.ensures ∙ c.if-length_ok.false)) refl
+pub returns : goal.returns
+returns c = let b = c.args.table.now in
+    let right = said (says_T (length_ok (length b))) (sym c.length_ok.ensures ∙ c.if-not-length_ok.false) in
+    records_test b right c.test_records.ensures

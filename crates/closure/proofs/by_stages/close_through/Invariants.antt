@@ -5,7 +5,7 @@ use Rattle.closure.proofs.Classed.{Passed}
 use Rattle.closure.proofs.by_stages.close_through.Given as goal
 
 abbrev pub invariant-loop-b : goal.invariant-loop-b
-invariant-loop-b l = Made l.w l.n (Passed l.k l.b (Cell l.w l.n l.initial.m)) l.initial.m l.m
+invariant-loop-b g l = Made g.row.W l.n (Passed l.k l.b (Cell g.row.W l.n l.fn.m)) l.fn.m l.m
 
 abbrev pub decreases-loop-b : goal.decreases-loop-b
-decreases-loop-b l = l.n - l.b
+decreases-loop-b g l = l.n - l.b

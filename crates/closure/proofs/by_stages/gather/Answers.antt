@@ -1,21 +1,12 @@
--- `by_stages::gather` meets its contract: as it is for one word, two, and four.
-use Rattle.rows.proofs.Rows.{four_words}
+-- `by_stages::gather` meets its contract: the first b rows are gathered, or emptied.
+use Rattle.rows.proofs.Rows.{made_more, made_row_iff}
 use Rattle.closure.proofs.by_stages.gather.Goals as goal
+use Rattle.closure.proofs.by_stages.gather.Goals.{then-column-b, else-column-b}
 
-pub gather_by-requires : goal.gather_by-requires
-gather_by-requires c = rw c.if-w-eq1.true at c.requires
-
-pub returns-then-w-eq1 : goal.returns-then-w-eq1
-returns-then-w-eq1 c = rw c.if-w-eq1.true c.gather_by.ensures
-
-pub gather_by-requires-then-w-eq2 : goal.gather_by-requires-then-w-eq2
-gather_by-requires-then-w-eq2 c = rw c.if-w-eq2.true at c.requires
-
-pub returns-then-w-eq2 : goal.returns-then-w-eq2
-returns-then-w-eq2 c = rw c.if-w-eq2.true c.gather_by-then-w-eq2.ensures
-
-pub gather_by-requires-else-w-eq2 : goal.gather_by-requires-else-w-eq2
-gather_by-requires-else-w-eq2 c = let pre = c.requires in rw (four_words pre.1.width c.if-w-eq1.false c.if-w-eq2.false) at pre
-
-pub returns-else-w-eq2 : goal.returns-else-w-eq2
-returns-else-w-eq2 c = rw (four_words c.requires.1.width c.if-w-eq1.false c.if-w-eq2.false) c.gather_by-else-w-eq2.ensures
+pub loop-b-preserved : goal.loop-b-preserved
+loop-b-preserved g c = let turn = c.loop-b in
+    elim c.if-column-b.branch [
+      | then-column-b w ↦ rw w.out-is (made_more turn.invariant (made_row_iff (λ a t. (w.if-column-b.true, t)) (λ a z. z.1) w.gather_row.ensures))
+      | else-column-b w ↦
+          rw w.out-is (made_more turn.invariant (made_row_iff (λ a i. absurd (w.nothing.ensures.only a i)) (λ a z. absurd (w.if-column-b.false z.0)) w.put.ensures))
+    ]

@@ -1,21 +1,25 @@
--- `sequential::among` meets its contract: as it is for one word, two, and four.
-use Rattle.rows.proofs.Rows.{four_words}
+-- `sequential::among` meets its contract: the first b rows have the steps among SC records.
+use native.Mathlib.Omega.{arith}
+use Rattle.rows.proofs.Sets.{is_iff}
+use Rattle.rows.proofs.Rows.{made_none, made_more, made_whole, made_row_is, made_row_iff}
 use Rattle.combined.proofs.sequential.among.Goals as goal
+use Rattle.combined.proofs.sequential.among.Goals.{then-order-b-eq4, else-order-b-eq4}
 
-pub among_by-requires : goal.among_by-requires
-among_by-requires c = rw c.if-w-eq1.true at c.requires
+pub loop-b-init : goal.loop-b-init
+loop-b-init g c = made_none
 
-pub returns-then-w-eq1 : goal.returns-then-w-eq1
-returns-then-w-eq1 c = rw c.if-w-eq1.true c.among_by.ensures
+pub loop-b-preserved : goal.loop-b-preserved
+loop-b-preserved g c = let rows = c.loop-b.invariant in
+    elim c.if-order-b-eq4.branch [
+      | then-order-b-eq4 y ↦
+          rw y.out-is
+          (made_more rows
+          (made_row_iff (λ a z. record { sc_a = z.0; sc_b = y.if-order-b-eq4.true; by = z.1 }) (λ a s. (s.sc_a, s.by)) y.steps_to.ensures))
+      | else-order-b-eq4 y ↦
+          rw y.out-is
+          (made_more rows
+          (made_row_is (is_iff (λ a z. absurd z) (λ a s. y.if-order-b-eq4.false s.sc_b) y.nothing.ensures) y.put.ensures))
+    ]
 
-pub among_by-requires-then-w-eq2 : goal.among_by-requires-then-w-eq2
-among_by-requires-then-w-eq2 c = rw c.if-w-eq2.true at c.requires
-
-pub returns-then-w-eq2 : goal.returns-then-w-eq2
-returns-then-w-eq2 c = rw c.if-w-eq2.true c.among_by-then-w-eq2.ensures
-
-pub among_by-requires-else-w-eq2 : goal.among_by-requires-else-w-eq2
-among_by-requires-else-w-eq2 c = let pre = c.requires in rw (four_words pre.2.width c.if-w-eq1.false c.if-w-eq2.false) at pre
-
-pub returns-else-w-eq2 : goal.returns-else-w-eq2
-returns-else-w-eq2 c = rw (four_words c.requires.2.width c.if-w-eq1.false c.if-w-eq2.false) c.among_by-else-w-eq2.ensures
+pub returns : goal.returns
+returns g c = made_whole (omega arith) c.loop-b.invariant

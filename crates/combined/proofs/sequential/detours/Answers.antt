@@ -1,21 +1,13 @@
--- `sequential::detours` meets its contract: as it is for one word, two, and four.
-use Rattle.rows.proofs.Rows.{four_words}
+-- `sequential::detours` meets its contract: the first b rows are turned.
+use native.Mathlib.Omega.{arith}
+use Rattle.rows.proofs.Rows.{made_none, made_more, made_whole, made_row_is}
 use Rattle.combined.proofs.sequential.detours.Goals as goal
 
-pub detours_by-requires : goal.detours_by-requires
-detours_by-requires c = rw c.if-w-eq1.true at c.requires
+pub loop-b-init : goal.loop-b-init
+loop-b-init g c = made_none
 
-pub returns-then-w-eq1 : goal.returns-then-w-eq1
-returns-then-w-eq1 c = rw c.if-w-eq1.true c.detours_by.ensures
+pub loop-b-preserved : goal.loop-b-preserved
+loop-b-preserved g c = made_more c.loop-b.invariant (made_row_is c.turn-turned.ensures c.put.ensures)
 
-pub detours_by-requires-then-w-eq2 : goal.detours_by-requires-then-w-eq2
-detours_by-requires-then-w-eq2 c = rw c.if-w-eq2.true at c.requires
-
-pub returns-then-w-eq2 : goal.returns-then-w-eq2
-returns-then-w-eq2 c = rw c.if-w-eq2.true c.detours_by-then-w-eq2.ensures
-
-pub detours_by-requires-else-w-eq2 : goal.detours_by-requires-else-w-eq2
-detours_by-requires-else-w-eq2 c = let pre = c.requires in rw (four_words pre.for_out.width c.if-w-eq1.false c.if-w-eq2.false) at pre
-
-pub returns-else-w-eq2 : goal.returns-else-w-eq2
-returns-else-w-eq2 c = rw (four_words c.requires.for_out.width c.if-w-eq1.false c.if-w-eq2.false) c.detours_by-else-w-eq2.ensures
+pub returns : goal.returns
+returns g c = made_whole (omega arith) c.loop-b.invariant

@@ -1,21 +1,16 @@
--- `sequential::elsewhere` meets its contract: as it is for one word, two, and four.
-use Rattle.rows.proofs.Rows.{four_words}
+-- `sequential::elsewhere` meets its contract: the first b rows are what is elsewhere.
+use native.Mathlib.Omega.{arith}
+use Rattle.rows.proofs.Sets.{is_iff, without_of}
+use Rattle.rows.proofs.Rows.{made_none, made_more, made_whole, made_row_is}
 use Rattle.combined.proofs.sequential.elsewhere.Goals as goal
 
-pub elsewhere_by-requires : goal.elsewhere_by-requires
-elsewhere_by-requires c = rw c.if-w-eq1.true at c.requires
+pub loop-b-init : goal.loop-b-init
+loop-b-init g c = made_none
 
-pub returns-then-w-eq1 : goal.returns-then-w-eq1
-returns-then-w-eq1 c = rw c.if-w-eq1.true c.elsewhere_by.ensures
+pub loop-b-preserved : goal.loop-b-preserved
+loop-b-preserved g c = let here = without_of c.row.ensures c.row-in-loop-b.ensures c.without.ensures in
+    made_more c.loop-b.invariant
+    (made_row_is (is_iff (λ a z. record { before = z.0; not_here = z.1 }) (λ a e. (e.before, e.not_here)) here) c.put.ensures)
 
-pub elsewhere_by-requires-then-w-eq2 : goal.elsewhere_by-requires-then-w-eq2
-elsewhere_by-requires-then-w-eq2 c = rw c.if-w-eq2.true at c.requires
-
-pub returns-then-w-eq2 : goal.returns-then-w-eq2
-returns-then-w-eq2 c = rw c.if-w-eq2.true c.elsewhere_by-then-w-eq2.ensures
-
-pub elsewhere_by-requires-else-w-eq2 : goal.elsewhere_by-requires-else-w-eq2
-elsewhere_by-requires-else-w-eq2 c = let pre = c.requires in rw (four_words pre.for_at.width c.if-w-eq1.false c.if-w-eq2.false) at pre
-
-pub returns-else-w-eq2 : goal.returns-else-w-eq2
-returns-else-w-eq2 c = rw (four_words c.requires.for_at.width c.if-w-eq1.false c.if-w-eq2.false) c.elsewhere_by-else-w-eq2.ensures
+pub returns : goal.returns
+returns g c = made_whole (omega arith) c.loop-b.invariant

@@ -4,7 +4,7 @@ use Rattle.rows.specs.Rows.{On}
 use Rattle.cycle.proofs.greedy.next_of.Given as goal
 
 abbrev pub invariant-loop-x : goal.invariant-loop-x
-invariant-loop-x l = ((y : ℕ) → y < l.x → On l.w l.layers y l.e → ¬ On l.w l.m l.a y) × (l.x < 64 * l.w → On l.w l.layers l.x l.e)
+invariant-loop-x g l = ((y : ℕ) → y < l.x → On g.row.W l.layers y l.e → ¬ On g.row.W l.m l.a y) × (l.x < 64 * g.row.W → On g.row.W l.layers l.x l.e)
 
 abbrev pub decreases-loop-x : goal.decreases-loop-x
-decreases-loop-x l = l.n - l.x
+decreases-loop-x g l = l.n - l.x

@@ -6,7 +6,7 @@ use Rattle.cycle.proofs.Layering.{EntersBelow}
 use Rattle.cycle.proofs.layers.leading_in.Given as goal
 
 abbrev pub invariant-loop-c : goal.invariant-loop-c
-invariant-loop-c l = Is l.found (EntersBelow l.w l.n l.m l.layers l.e l.c) × (l.c < 64 * l.w → On l.w l.layers l.c l.e)
+invariant-loop-c g l = Is l.found (EntersBelow g.row.W l.n l.m l.layers l.e l.c) × (l.c < 64 * g.row.W → On g.row.W l.layers l.c l.e)
 
 abbrev pub decreases-loop-c : goal.decreases-loop-c
-decreases-loop-c l = l.n - l.c
+decreases-loop-c g l = l.n - l.c

@@ -12,13 +12,13 @@ returns-then-used-eq-LIMIT c = full c.requires c.if-used-eq-LIMIT.true refl
 pub check_new-requires : goal.check_new-requires
 check_new-requires c = record { held = c.requires.in_use.held; passed = in_use_pass c.requires }
 
-pub returns-in-Fine : goal.returns-in-Fine
-returns-in-Fine c = let ready : Ready c.args.buffer.now c.args.used = record { sound_use = c.requires; not_full = c.if-used-eq-LIMIT.false; room = c.if-used-buffer.true } in
-    good ready (passes_of (rw c.in-Fine.is at c.check_new.ensures))
+pub returns-in-Ok : goal.returns-in-Ok
+returns-in-Ok c = let ready : Ready c.args.buffer.now c.args.used = record { sound_use = c.requires; not_full = c.if-used-eq-LIMIT.false; room = c.if-used-buffer.true } in
+    good ready (passes_of (rw c.in-Ok.is at c.check_new.ensures))
 
-pub returns-in-Faulty : goal.returns-in-Faulty
-returns-in-Faulty c = let ready : Ready c.args.buffer.now c.args.used = record { sound_use = c.requires; not_full = c.if-used-eq-LIMIT.false; room = c.if-used-buffer.true } in
-    bad_new ready (fault_of (rw c.in-Faulty.is at c.check_new.ensures)) refl
+pub returns-in-Err : goal.returns-in-Err
+returns-in-Err c = let ready : Ready c.args.buffer.now c.args.used = record { sound_use = c.requires; not_full = c.if-used-eq-LIMIT.false; room = c.if-used-buffer.true } in
+    bad_new ready (fault_of (rw c.in-Err.is at c.check_new.ensures)) refl
 
 pub returns : goal.returns
 returns c = no_room c.requires c.if-used-eq-LIMIT.false (λ h. absurd (omega (arith, c.if-used-buffer.false))) refl

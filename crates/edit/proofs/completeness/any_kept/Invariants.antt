@@ -6,7 +6,7 @@ use Rattle.selections.specs.Selection.{named}
 use Rattle.edit.proofs.completeness.any_kept.Given as goal
 
 abbrev pub invariant-loop-a : goal.invariant-loop-a
-invariant-loop-a l = ((i : ℕ) → i < l.a → On l.w l.race i l.b → ¬ T (named l.selection i)) × (l.a < 64 * l.w → On l.w l.race l.a l.b)
+invariant-loop-a g l = ((i : ℕ) → i < l.a → On g.row.W l.race i l.b → ¬ T (named l.selection i)) × (l.a < 64 * g.row.W → On g.row.W l.race l.a l.b)
 
 abbrev pub decreases-loop-a : goal.decreases-loop-a
-decreases-loop-a l = l.n - l.a
+decreases-loop-a g l = l.n - l.a

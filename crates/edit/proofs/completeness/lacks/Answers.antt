@@ -4,6 +4,6 @@ use Rattle.edit.proofs.Completing.{lacking_told}
 use Rattle.edit.proofs.completeness.lacks.Goals as goal
 
 pub returns : goal.returns
-returns c = λ t j.
+returns g c = λ t j.
     lacking_told c.args.selection.now c.requires.0 j c.link_kept.ensures c.link_kept-2.ensures (c.race_kept.ensures t j.reading)
     (says_is c.names.ensures)

@@ -1,15 +1,7 @@
--- `completeness::least_lacking` meets its contract: the columns are read.
-use native.Mathlib.Omega.{arith}
-use Rattle.facts.proofs.Records.{few}
-use Rattle.edit.proofs.Lending.{columns_room}
+-- `completeness::least_lacking` meets its contract: the columns are read, and hb, the writes of each place and the races are laid in rows.
+use Rattle.edit.proofs.Lending.{laying, judging}
 use Rattle.edit.proofs.completeness.least_lacking.Goals as goal
 
-pub read-requires : goal.read-requires
-read-requires c = let (counted, bits) = c.requires in
-    (counted, omega (arith, few counted))
-
-pub least_lacking_of-requires : goal.least_lacking_of-requires
-least_lacking_of-requires c = columns_room c.read.ensures.0 c.requires.1
-
 pub returns : goal.returns
-returns c = c.least_lacking_of.ensures _ c.read.ensures.0
+returns c = let columns = c.read-of.ensures in
+    c.least_lacking_by.ensures _ (judging columns (c.lay.ensures _ (laying columns)))

@@ -7,9 +7,6 @@ use Rattle.laws.proofs.Says.{says_yes, says_is, says_iff}
 use Rattle.selections.specs.Selection.{named}
 use Rattle.edit.proofs.completeness.link_kept.Goals as goal
 
-pub overflow_cast-a : goal.overflow_cast-a
-overflow_cast-a c = omega (arith, c.shared_slice_known-3-1.given c.args.b)
-
 pub returns-then-a-b : goal.returns-then-a-b
 returns-then-a-b c = let s = c.args.selection.now in
     says_iff (λ k a x. subst (λ (i : ℕ). T (named s i)) x.is k) (λ all. all _ (record { is = refl; falls = c.if-a-b.true }))

@@ -4,4 +4,4 @@ use Rattle.edit.proofs.Completing.{race_kept_told}
 use Rattle.edit.proofs.completeness.race_kept.Goals as goal
 
 pub returns : goal.returns
-returns c = λ t g. says_if (c.stands_on_race.ensures t g) (race_kept_told c.args.selection.now c.requires.0 g c.any_kept.ensures)
+returns g c = λ t g. says_if (c.stands_on_race.ensures t g) (race_kept_told c.args.selection.now c.requires.0 g c.any_kept.ensures)

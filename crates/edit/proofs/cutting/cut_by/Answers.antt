@@ -12,13 +12,13 @@ least_lacking-requires c = let sound = counted c.args.table.now c.args.count c.r
 
 pub cut_complete-requires : goal.cut_complete-requires
 cut_complete-requires c = let pre = c.requires in
-    (record { selected = pre.0; not_10 = rw c.in-Nothing.is at c.least_lacking.ensures }, pre.1)
+    (record { selected = pre.0; not_10 = rw c.in-None.is at c.least_lacking.ensures }, pre.1)
 
-pub returns-in-Record : goal.returns-in-Record
-returns-in-Record c = record {
-  decided = lacking c.requires.0 (rw c.in-Record.is at c.least_lacking.ensures) refl;
+pub returns-in-Some : goal.returns-in-Some
+returns-in-Some c = record {
+  decided = lacking c.requires.0 (rw c.in-Some.is at c.least_lacking.ensures) refl;
   bytes = refl;
 }
 
-pub returns-in-Nothing : goal.returns-in-Nothing
-returns-in-Nothing c = c.cut_complete.ensures
+pub returns-in-None : goal.returns-in-None
+returns-in-None c = c.cut_complete.ensures

@@ -1,38 +1,19 @@
 -- `searching::find_in_conflict` meets its contract: the two searches, or nothing where no records conflict.
 use Rattle.laws.proofs.Says.{denied}
-use Rattle.rows.proofs.Rows.{room_kept}
 use Rattle.judge.proofs.Grounds.{none_in_conflict}
 use Rattle.judge.proofs.searching.find_in_conflict.Goals as goal
 
 -- room for rows, whichever they are: what they hold is asked where nothing is found
 pub relates_any-requires : goal.relates_any-requires
-relates_any-requires c = let p = c.requires in
+relates_any-requires g c = let p = c.requires in
     search (p.0.for_readers, p.1)
 
-pub find_before_in_conflict-a2-requires : goal.find_before_in_conflict-a2-requires
-find_before_in_conflict-a2-requires c = let p = c.requires in
-    (p.0.for_hb, p.1, p.0.for_shows)
-
-pub find_sources_in_conflict-a3-requires : goal.find_sources_in_conflict-a3-requires
-find_sources_in_conflict-a3-requires c = let p = c.requires.0 in
-    record {
-      parents = p.parents;
-      all_arms = p.all_arms;
-      sources = p.sources;
-      for_readers = p.for_readers;
-      for_hb = p.for_hb;
-      for_below = p.for_below;
-      for_arms = p.for_arms;
-      for_conflicting = p.for_conflicting;
-      for_shows = room_kept c.find_before_in_conflict-a2.auto.shows p.for_shows;
-    }
-
 pub returns-then-relates_any : goal.returns-then-relates_any
-returns-then-relates_any c = λ t g.
+returns-then-relates_any g c = λ t g.
     record {
       before = c.find_before_in_conflict-a2.ensures t g.known g.by_hb g.by_cf;
       sources = c.find_sources_in_conflict-a3.ensures t g.known g.parents g.arms g.sources g.by_readers g.by_hb;
     }
 
 pub returns-else-relates_any : goal.returns-else-relates_any
-returns-else-relates_any c = λ t g. none_in_conflict g (denied c.relates_any.ensures c.if-relates_any.false)
+returns-else-relates_any g c = λ t g. none_in_conflict g (denied c.relates_any.ensures c.if-relates_any.false)

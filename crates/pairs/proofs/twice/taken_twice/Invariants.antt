@@ -1,10 +1,6 @@
 -- `twice::taken_twice` meets its contract: no two of the numbers below q took from one source.
-use Prim.Native.Nat.{◌-◌, ◌≤◌}
 use Rattle.pairs.proofs.Seen.{SeenBelow}
 use Rattle.pairs.proofs.twice.taken_twice.Given as goal
 
 abbrev pub invariant-loop-q : goal.invariant-loop-q
-invariant-loop-q l = (l.q ≤ l.n) × SeenBelow l.kind l.source l.q l.seen
-
-abbrev pub decreases-loop-q : goal.decreases-loop-q
-decreases-loop-q l = l.n - l.q
+invariant-loop-q l = SeenBelow l.kind l.source l.q l.seen

@@ -1,4 +1,5 @@
 -- `rules::first_fault` meets its contract: each way out by what the tests before it said.
+use Rattle.std.specs.Prelude.{Err}
 use mathlib.Core.Path.{◌≡◌, refl, sym, ap, ◌∙◌}
 use mathlib.Core.Bool.{Bool, true, false}
 use mathlib.Core.List.{List}
@@ -7,7 +8,6 @@ use native.Mathlib.Omega.{arith}
 use lib.Dec.{leb}
 use borrow.Author.Tests.{le-leb, lt-leb}
 use Rattle.refusals.specs.declared.Fault.TheVariants.{Rest}
-use Rattle.record.specs.declared.Decoded.TheVariants.{Bad}
 use Rattle.record.specs.Form.{kind_byte, order_byte, thread_byte, location_byte, marked, in_row, least_restless, record_from, decided_by, decode}
 use Rattle.record.proofs.Exact.{decided_so}
 use Rattle.record.proofs.Resting.{all_rest, one_restless}
@@ -45,7 +45,7 @@ unfolding decided_by
 returns-then-restless-lt-SIZE c = let b = c.args.b.now in
     let least = c.least_restless-restless.ensures in
     decided_so b (sym c.marked_at.ensures ∙ c.if-not-marked_at.false) (few 3 c.if-b-ge4.false) (sym c.in_row.ensures ∙ c.if-not-in_row.false) (one_restless b (omega (arith, c.if-restless-lt-SIZE.true, least))) refl refl
-    ∙ ap (λ (i : ℕ). Bad (Rest i)) (sym least)
+    ∙ ap (λ (i : ℕ). Err (Rest i)) (sym least)
 
 pub returns-then-b-ge16 : goal.returns-then-b-ge16
 unfolding decided_by

@@ -15,5 +15,5 @@ returns c = simp (
   c.code.ensures,
   c.number_of-y.ensures,
   c.number_of-x.ensures,
-  c.columns_of-f.ensures,
+  c.columns_of-kind.ensures,
 )

@@ -3,4 +3,4 @@ use Rattle.rows.proofs.Rows.{row_drop}
 use Rattle.rows.proofs.row.drop.Goals as goal
 
 pub returns : goal.returns
-returns c = row_drop c.args.w c.args.a c.args.b c.requires
+returns g c = rw c.let_go.ensures.after (row_drop g.row.W c.args.a c.args.b c.requires.0 c.requires.1 c.let_go.ensures.width)

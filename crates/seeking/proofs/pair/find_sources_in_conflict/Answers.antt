@@ -4,7 +4,7 @@ use Rattle.seeking.proofs.Sources.{sources_told, told_sources}
 use Rattle.seeking.proofs.pair.find_sources_in_conflict.Goals as goal
 
 pub returns : goal.returns
-returns c = λ t k parents arms sources readers hb.
+returns g c = λ t k parents arms sources readers hb.
     let made = c.apart.ensures.2 in
     pair_found c.meet_led.ensures
     (λ p q l z. sources_told k parents arms sources readers made l (hb.only p q l z.0) z.1)

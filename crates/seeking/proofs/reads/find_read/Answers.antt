@@ -14,22 +14,16 @@ fewer : {n b : ℕ} → b < n → n - (b + 1) < n - b
 fewer l = omega arith
 
 pub loop-b-init : goal.loop-b-init
-loop-b-init c = let p = c.requires in (omega arith, p.0, p.1, λ t g j l. absurd (omega arith))
-
-pub unjustified-requires : goal.unjustified-requires
-unjustified-requires c = let i = c.loop-b.invariant in (c.loop-b-test.true, i.1, i.2)
+loop-b-init g c = let p = c.requires in (omega arith, p.0, p.1, λ t g j l. absurd (omega arith))
 
 pub returns-then-unjustified : goal.returns-then-unjustified
-returns-then-unjustified c = λ t g. found_record (number_found (c.loop-b.invariant.3 t g) (said (c.unjustified.ensures t g) c.if-unjustified.true))
+returns-then-unjustified g c = λ t g. found_record (number_found (c.loop-b.invariant.3 t g) (said (c.unjustified.ensures t g) c.if-unjustified.true))
 
 pub loop-b-preserved : goal.loop-b-preserved
-loop-b-preserved c = let i = c.loop-b.invariant in
+loop-b-preserved g c = let i = c.loop-b.invariant in
     (omega arith, i.1, i.2, λ t g. below_more _ _ (i.3 t g) (denied (c.unjustified.ensures t g) c.if-unjustified.false))
 
 pub returns : goal.returns
-returns c = λ t g.
+returns g c = λ t g.
     found_no_record
     (Least.absent (λ j s. c.loop-b.invariant.3 t g j (let h = below g.known (read_inside g.known.formed j s.reads) in omega (arith, h, c.loop-b-test.false)) s))
-
-pub loop-b-smaller : goal.loop-b-smaller
-loop-b-smaller c = fewer c.loop-b-test.true

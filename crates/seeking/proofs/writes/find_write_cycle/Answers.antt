@@ -3,4 +3,4 @@ use Rattle.seeking.proofs.Cycles.{cycle_found, wb0_within}
 use Rattle.seeking.proofs.writes.find_write_cycle.Goals as goal
 
 pub returns : goal.returns
-returns c = λ t k held. cycle_found (wb0_within k) held c.least_cycle.ensures
+returns g c = λ t k held. cycle_found (wb0_within k) held c.least_cycle.ensures

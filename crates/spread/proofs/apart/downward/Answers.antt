@@ -1,21 +1,29 @@
--- `apart::downward` meets its contract: as it is for one word, two, and four.
-use Rattle.rows.proofs.Rows.{four_words}
+-- `apart::downward` meets its contract: the numbers from b on have handed up what stands under them.
+use mathlib.Core.Path.{◌≡◌}
+use Prim.Native.Nat.{◌+◌, ◌-◌}
+use native.Mathlib.Omega.{arith}
+use Rattle.rows.proofs.Rows.{made_iff, made_trans}
+use Rattle.spread.proofs.Arms.{under_none, all_under, under_all, arms_none, arms_all}
 use Rattle.spread.proofs.apart.downward.Goals as goal
 
-pub downward_by-requires : goal.downward_by-requires
-downward_by-requires c = rw c.if-w-eq1.true at c.requires
+pub loop-b-init : goal.loop-b-init
+loop-b-init g c = record {
+  under = made_iff (λ a p l z. absurd z) (λ a p l. under_none (omega arith)) c.clear.ensures;
+  under_arms = made_iff (λ a p l z. absurd z) (λ a p l. arms_none (omega arith)) c.clear-2.ensures;
+}
 
-pub returns-then-w-eq1 : goal.returns-then-w-eq1
-returns-then-w-eq1 c = rw c.if-w-eq1.true c.downward_by.ensures
+pub down_row-requires : goal.down_row-requires
+down_row-requires g c = let e : c.loop-b.b ≡ c.loop-b.b - 1 + 1 = omega arith in
+    let turn = rw e at c.loop-b.invariant in
+    (omega arith, (omega arith, (omega arith, (omega arith, (turn.under.holds, turn.under_arms.holds)))))
 
-pub downward_by-requires-then-w-eq2 : goal.downward_by-requires-then-w-eq2
-downward_by-requires-then-w-eq2 c = rw c.if-w-eq2.true at c.requires
+pub loop-b-preserved : goal.loop-b-preserved
+loop-b-preserved g c = let turn = c.loop-b.invariant in
+    record { under = made_trans turn.under c.down_row.ensures.under; under_arms = made_trans turn.under_arms c.down_row.ensures.under_arms }
 
-pub returns-then-w-eq2 : goal.returns-then-w-eq2
-returns-then-w-eq2 c = rw c.if-w-eq2.true c.downward_by-then-w-eq2.ensures
-
-pub downward_by-requires-else-w-eq2 : goal.downward_by-requires-else-w-eq2
-downward_by-requires-else-w-eq2 c = let pre = c.requires in rw (four_words pre.2.width c.if-w-eq1.false c.if-w-eq2.false) at pre
-
-pub returns-else-w-eq2 : goal.returns-else-w-eq2
-returns-else-w-eq2 c = rw (four_words c.requires.2.width c.if-w-eq1.false c.if-w-eq2.false) c.downward_by-else-w-eq2.ensures
+pub returns : goal.returns
+returns g c = let e : c.loop-b.b ≡ 0 = omega arith in
+    let turn = rw e at c.loop-b.invariant in record {
+      under = made_iff (λ a p l. all_under) (λ a p l. under_all) turn.under;
+      under_arms = made_iff (λ a p l f. f.among) (λ a p l. arms_all) turn.under_arms;
+    }

@@ -1,21 +1,18 @@
--- `apart::upward` meets its contract: as it is for one word, two, and four.
-use Rattle.rows.proofs.Rows.{four_words}
+-- `apart::upward` meets its contract: the first b rows hold what stands beside a number or one above it.
+use native.Mathlib.Omega.{arith}
+use Rattle.rows.proofs.Sets.{is_iff, either_of}
+use Rattle.rows.proofs.Rows.{made_none, made_more, made_whole, made_row_is}
+use Rattle.rows.proofs.Steps.{then_held, then_star, star_then}
 use Rattle.spread.proofs.apart.upward.Goals as goal
 
-pub upward_by-requires : goal.upward_by-requires
-upward_by-requires c = rw c.if-w-eq1.true at c.requires
+pub loop-b-init : goal.loop-b-init
+loop-b-init g c = made_none
 
-pub returns-then-w-eq1 : goal.returns-then-w-eq1
-returns-then-w-eq1 c = rw c.if-w-eq1.true c.upward_by.ensures
+pub loop-b-preserved : goal.loop-b-preserved
+loop-b-preserved g c = let rows = c.loop-b.invariant in
+    let above = then_held (λ v l. l.falls) rows.holds c.row_before-above.ensures in
+    let row = is_iff (λ a. then_star) (λ a. star_then) (either_of c.beside-here.ensures above c.or.ensures) in
+    made_more rows (made_row_is row c.put.ensures)
 
-pub upward_by-requires-then-w-eq2 : goal.upward_by-requires-then-w-eq2
-upward_by-requires-then-w-eq2 c = rw c.if-w-eq2.true at c.requires
-
-pub returns-then-w-eq2 : goal.returns-then-w-eq2
-returns-then-w-eq2 c = rw c.if-w-eq2.true c.upward_by-then-w-eq2.ensures
-
-pub upward_by-requires-else-w-eq2 : goal.upward_by-requires-else-w-eq2
-upward_by-requires-else-w-eq2 c = let pre = c.requires in rw (four_words pre.2.width c.if-w-eq1.false c.if-w-eq2.false) at pre
-
-pub returns-else-w-eq2 : goal.returns-else-w-eq2
-returns-else-w-eq2 c = rw (four_words c.requires.2.width c.if-w-eq1.false c.if-w-eq2.false) c.upward_by-else-w-eq2.ensures
+pub returns : goal.returns
+returns g c = made_whole (omega arith) c.loop-b.invariant

@@ -1,10 +1,6 @@
 -- `forks::forks` meets its contract: the column leads to no two of the numbers below b from one.
-use Prim.Native.Nat.{◌-◌, ◌≤◌}
 use Rattle.spread.proofs.Forking.{SeenBelow}
 use Rattle.spread.proofs.forks.forks.Given as goal
 
 abbrev pub invariant-loop-b : goal.invariant-loop-b
-invariant-loop-b l = (l.b ≤ l.n) × SeenBelow l.column l.b l.seen
-
-abbrev pub decreases-loop-b : goal.decreases-loop-b
-decreases-loop-b l = l.n - l.b
+invariant-loop-b l = SeenBelow l.column l.b l.seen

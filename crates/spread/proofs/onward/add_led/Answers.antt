@@ -3,19 +3,13 @@ use mathlib.Core.Path.{sym}
 use mathlib.Core.Logic.{inl, ⊎_map, ⊎_elim}
 use native.Mathlib.Omega.{arith}
 use Rattle.rows.proofs.Parts.{outside_none}
-use Rattle.rows.proofs.Rows.{room_place, made_row_iff}
+use Rattle.rows.proofs.Rows.{made_row_iff}
 use Rattle.spread.proofs.onward.add_led.Goals as goal
 
-pub overflow_cast-v : goal.overflow_cast-v
-overflow_cast-v c = omega (arith, c.shared_slice_known-2-1.given c.args.b)
-
-pub add-requires : goal.add-requires
-add-requires c = room_place c.requires.2 _ _ (omega arith) c.requires.0
-
 pub returns-then-v-b : goal.returns-then-v-b
-returns-then-v-b c = let falls = c.if-v-b.true in
+returns-then-v-b g c = let falls = c.if-v-b.true in
     made_row_iff (λ a. ⊎_map (λ o. o) (λ e. record { is = sym e; falls = omega (arith, e, falls) })) (λ a. ⊎_map (λ o. o) (λ l. sym l.is)) c.add.ensures
 
 pub returns-else-v-b : goal.returns-else-v-b
-returns-else-v-b c = let later = c.if-v-b.false in
+returns-else-v-b g c = let later = c.if-v-b.false in
     record { rest = outside_none; all = λ a. ⊎_elim (λ o. o) (λ l. absurd (omega (arith, later, l.is, l.falls))); only = λ a. inl }

@@ -1,21 +1,15 @@
--- `onward::along` meets its contract: as it is for one word, two, and four.
-use Rattle.rows.proofs.Rows.{four_words}
+-- `onward::along` meets its contract: the first b rows hold one or more steps.
+use native.Mathlib.Omega.{arith}
+use Rattle.rows.proofs.Rows.{made_none, made_more, made_whole}
+use Rattle.spread.proofs.Stepping.{steps_row}
 use Rattle.spread.proofs.onward.along.Goals as goal
 
-pub along_by-requires : goal.along_by-requires
-along_by-requires c = rw c.if-w-eq1.true at c.requires
+pub loop-b-init : goal.loop-b-init
+loop-b-init g c = made_none
 
-pub along_by-requires-then-w-eq2 : goal.along_by-requires-then-w-eq2
-along_by-requires-then-w-eq2 c = rw c.if-w-eq2.true at c.requires
+pub loop-b-preserved : goal.loop-b-preserved
+loop-b-preserved g c = let rows = c.loop-b.invariant in
+    made_more rows (steps_row (λ v l. l.falls) (λ a l. l) (λ a l. l) rows.holds c.row_before-more.ensures c.put.ensures c.add_led.ensures)
 
-pub along_by-requires-else-w-eq2 : goal.along_by-requires-else-w-eq2
-along_by-requires-else-w-eq2 c = let pre = c.requires in rw (four_words pre.1.width c.if-w-eq1.false c.if-w-eq2.false) at pre
-
-pub returns-then-w-eq1 : goal.returns-then-w-eq1
-returns-then-w-eq1 c = rw c.if-w-eq1.true c.along_by.ensures
-
-pub returns-then-w-eq2 : goal.returns-then-w-eq2
-returns-then-w-eq2 c = rw c.if-w-eq2.true c.along_by-then-w-eq2.ensures
-
-pub returns-else-w-eq2 : goal.returns-else-w-eq2
-returns-else-w-eq2 c = rw (four_words c.requires.1.width c.if-w-eq1.false c.if-w-eq2.false) c.along_by-else-w-eq2.ensures
+pub returns : goal.returns
+returns g c = made_whole (omega arith) c.loop-b.invariant

@@ -1,21 +1,17 @@
--- `onward::before` meets its contract: as it is for one word, two, and four.
-use Rattle.rows.proofs.Rows.{four_words}
+-- `onward::before` meets its contract: the first b rows hold one or more steps.
+use native.Mathlib.Omega.{arith}
+use Rattle.rows.proofs.Rows.{made_none, made_more, made_whole}
+use Rattle.rows.proofs.Steps.{either_rises}
+use Rattle.spread.proofs.Stepping.{by_one_of, one_of, both_taken_in, steps_row}
 use Rattle.spread.proofs.onward.before.Goals as goal
 
-pub before_by-requires : goal.before_by-requires
-before_by-requires c = rw c.if-w-eq1.true at c.requires
+pub loop-b-init : goal.loop-b-init
+loop-b-init g c = made_none
 
-pub before_by-requires-then-w-eq2 : goal.before_by-requires-then-w-eq2
-before_by-requires-then-w-eq2 c = rw c.if-w-eq2.true at c.requires
+pub loop-b-preserved : goal.loop-b-preserved
+loop-b-preserved g c = let rows = c.loop-b.invariant in
+    let led = both_taken_in c.add_led.ensures c.add_led-in-loop-b.ensures in
+    made_more rows (steps_row (λ v. either_rises) (λ a. by_one_of) (λ a. one_of) rows.holds c.from_either-earlier.ensures c.put.ensures led)
 
-pub before_by-requires-else-w-eq2 : goal.before_by-requires-else-w-eq2
-before_by-requires-else-w-eq2 c = let pre = c.requires in rw (four_words pre.2.width c.if-w-eq1.false c.if-w-eq2.false) at pre
-
-pub returns-then-w-eq1 : goal.returns-then-w-eq1
-returns-then-w-eq1 c = rw c.if-w-eq1.true c.before_by.ensures
-
-pub returns-then-w-eq2 : goal.returns-then-w-eq2
-returns-then-w-eq2 c = rw c.if-w-eq2.true c.before_by-then-w-eq2.ensures
-
-pub returns-else-w-eq2 : goal.returns-else-w-eq2
-returns-else-w-eq2 c = rw (four_words c.requires.2.width c.if-w-eq1.false c.if-w-eq2.false) c.before_by-else-w-eq2.ensures
+pub returns : goal.returns
+returns g c = made_whole (omega arith) c.loop-b.invariant

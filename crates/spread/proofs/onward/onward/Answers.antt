@@ -1,21 +1,18 @@
--- `onward::onward` meets its contract: as it is for one word, two, and four.
-use Rattle.rows.proofs.Rows.{four_words}
+-- `onward::onward` meets its contract: the first b rows hold what x relates and then steps lead on.
+use native.Mathlib.Omega.{arith}
+use Rattle.rows.proofs.Sets.{is_iff, either_of}
+use Rattle.rows.proofs.Rows.{made_none, made_more, made_whole, made_row_is}
+use Rattle.rows.proofs.Steps.{either_rises, then_held, then_plus, plus_then}
 use Rattle.spread.proofs.onward.onward.Goals as goal
 
-pub onward_by-requires : goal.onward_by-requires
-onward_by-requires c = rw c.if-w-eq1.true at c.requires
+pub loop-b-init : goal.loop-b-init
+loop-b-init g c = made_none
 
-pub onward_by-requires-then-w-eq2 : goal.onward_by-requires-then-w-eq2
-onward_by-requires-then-w-eq2 c = rw c.if-w-eq2.true at c.requires
+pub loop-b-preserved : goal.loop-b-preserved
+loop-b-preserved g c = let rows = c.loop-b.invariant in
+    let more = then_held (λ v. either_rises) rows.holds c.from_either-more.ensures in
+    let row = is_iff (λ a. then_plus) (λ a. plus_then) (either_of c.from_either-one.ensures more c.or.ensures) in
+    made_more rows (made_row_is row c.put.ensures)
 
-pub onward_by-requires-else-w-eq2 : goal.onward_by-requires-else-w-eq2
-onward_by-requires-else-w-eq2 c = let pre = c.requires in rw (four_words pre.2.width c.if-w-eq1.false c.if-w-eq2.false) at pre
-
-pub returns-then-w-eq1 : goal.returns-then-w-eq1
-returns-then-w-eq1 c = rw c.if-w-eq1.true c.onward_by.ensures
-
-pub returns-then-w-eq2 : goal.returns-then-w-eq2
-returns-then-w-eq2 c = rw c.if-w-eq2.true c.onward_by-then-w-eq2.ensures
-
-pub returns-else-w-eq2 : goal.returns-else-w-eq2
-returns-else-w-eq2 c = rw (four_words c.requires.2.width c.if-w-eq1.false c.if-w-eq2.false) c.onward_by-else-w-eq2.ensures
+pub returns : goal.returns
+returns g c = made_whole (omega arith) c.loop-b.invariant

@@ -7,10 +7,10 @@ pub returns-then-n-eq0 : goal.returns-then-n-eq0
 unfolding parent_fault
 returns-then-n-eq0 c = simp (eq-eqb _ _ c.if-n-eq0.true, c.is_root.ensures)
 
-pub returns-in-Absent : goal.returns-in-Absent
+pub returns-in-None : goal.returns-in-None
 unfolding parent_fault
-returns-in-Absent c = simp (ne_eqb _ _ c.if-n-eq0.false, c.in-Absent.is)
+returns-in-None c = simp (ne_eqb _ _ c.if-n-eq0.false, c.in-None.is)
 
-pub returns-in-To : goal.returns-in-To
+pub returns-in-Some : goal.returns-in-Some
 unfolding parent_fault
-returns-in-To c = simp (ne_eqb _ _ c.if-n-eq0.false, c.in-To.is, c.is_misplaced.ensures, c.wide.ensures)
+returns-in-Some c = simp (ne_eqb _ _ c.if-n-eq0.false, c.in-Some.is, c.is_misplaced.ensures, c.wide.ensures)

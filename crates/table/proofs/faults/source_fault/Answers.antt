@@ -3,19 +3,19 @@ use mathlib.Core.Path.{sym, ◌∙◌}
 use Rattle.table.specs.Computed.{source_fault}
 use Rattle.table.proofs.faults.source_fault.Goals as goal
 
-pub returns-in-Nothing : goal.returns-in-Nothing
+pub returns-in-None-default : goal.returns-in-None-default
 unfolding source_fault
-returns-in-Nothing c = rw (sym c.read_by.ensures ∙ c.in-Nothing.is)
+returns-in-None-default c = rw (sym c.read_by.ensures ∙ c.in-None-default.is-0)
 
-pub returns-in-Absent : goal.returns-in-Absent
+pub returns-in-Some-None : goal.returns-in-Some-None
 unfolding source_fault
-returns-in-Absent c = simp (sym c.read_by.ensures ∙ c.in-At.is, c.in-Absent.is, c.is_u.ensures)
+returns-in-Some-None c = simp (sym c.read_by.ensures ∙ c.in-Some-None.is-0, c.in-Some-None.is-1, c.is_u.ensures)
 
-pub returns-in-To : goal.returns-in-To
+pub returns-in-Some-Some : goal.returns-in-Some-Some
 unfolding source_fault
-returns-in-To c = simp (
-  sym c.read_by.ensures ∙ c.in-At.is,
-  c.in-To.is,
+returns-in-Some-Some c = simp (
+  sym c.read_by.ensures ∙ c.in-Some-Some.is-0,
+  c.in-Some-Some.is-1,
   c.is_unfit.ensures,
   c.wide.ensures,
 )

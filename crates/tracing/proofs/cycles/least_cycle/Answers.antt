@@ -3,35 +3,30 @@ use mathlib.Core.Path.{refl}
 use native.Mathlib.Omega.{arith}
 use Rattle.findings.proofs.Meant.{found_cycle, found_no_cycle}
 use Rattle.facts.proofs.Records.{few}
-use Rattle.tracing.proofs.StepsBack.{step_low}
 use Rattle.tracing.proofs.Cycling as cycling
 use Rattle.tracing.proofs.cycles.least_cycle.Goals as goal
 
-pub overflow_cast-len : goal.overflow_cast-len
-overflow_cast-len c = omega (arith, c.steps_to.ensures.low _ c.if-s-n.true)
+pub returns-in_default : goal.returns-in_default
+returns-in_default g c = let table = c.requires.0 in
+    found_no_cycle (cycling.nothing (g.met.S.Steps.among _ _ table) (omega (arith, few table)) (rw c.in_default.is at c.least_start.ensures)) refl
 
 pub write_cycle-requires : goal.write_cycle-requires
-write_cycle-requires c = let (table, room) = c.requires in
-    let h = c.if-s-n.true in
-    let sh = c.steps_to.ensures in
-    let f = c.least_start-s.ensures.there h in
-    let on = step_low c.args.which table in
+write_cycle-requires g c = let (table, room) = c.requires in
+    let (inside, chosen) = rw c.in-Some.is at c.least_start.ensures in
+    let on = g.met.S.Steps.among _ _ table in
+    let steps = c.steps_to-dist.ensures in
     record {
       table = table;
-      entries = omega (arith, few table, c.steps_to.auto.dist);
-      start = h;
+      start = inside;
       is = refl;
-      small = cycling.start_small on sh h f;
-      some = cycling.start_some on sh h f;
-      room = omega (arith, room, cycling.start_short on sh h f);
-      steps = sh;
+      small = cycling.start_small on steps inside chosen;
+      some = cycling.start_some on steps inside chosen;
+      room = omega (arith, room, cycling.start_short on steps inside chosen);
+      steps = steps;
     }
 
-pub returns-then-s-n : goal.returns-then-s-n
-returns-then-s-n c = let h = c.if-s-n.true in
-    let f = c.least_start-s.ensures.there h in
+pub returns : goal.returns
+returns g c = let table = c.requires.0 in
+    let (inside, chosen) = rw c.in-Some.is at c.least_start.ensures in
     let w = c.write_cycle.ensures in
-    found_cycle (cycling.found (step_low c.args.which c.requires.0) c.steps_to.ensures h f w.tail) (omega (arith, w.tail.long)) w.holds
-
-pub returns-else-s-n : goal.returns-else-s-n
-returns-else-s-n c = found_no_cycle (cycling.nothing (step_low c.args.which c.requires.0) c.least_start-s.ensures (omega (arith, few c.requires.0)) c.if-s-n.false) refl
+    found_cycle (cycling.found (g.met.S.Steps.among _ _ table) c.steps_to-dist.ensures inside chosen w.tail) (omega (arith, w.tail.long)) w.holds

@@ -1,0 +1,14 @@
+-- `Set::without` meets its contract: the first k words are put together, and the others stay.
+use native.Mathlib.Omega.{arith}
+use Rattle.std.proofs.Common.{rules}
+use Rattle.rows.proofs.Sets.{is_without, merged_none, merged_more}
+use Rattle.rows.proofs.set.Set.without.Goals as goal
+
+pub loop-k-init : goal.loop-k-init
+loop-k-init g c = merged_none (search rules)
+
+pub loop-k-preserved : goal.loop-k-preserved
+loop-k-preserved g c = merged_more (omega arith) c.loop-k.invariant
+
+pub returns : goal.returns
+returns g c = is_without (omega arith) (search rules) c.loop-k.invariant

@@ -1,0 +1,9 @@
+-- `around::owned_before` meets its contract: each record is asked.
+use mathlib.Core.Path.{refl}
+use Rattle.std.proofs.Common.{rules}
+use Rattle.asking.proofs.Chains.{says_some}
+use Rattle.tracing.proofs.Ways.{hb_low}
+use Rattle.tracing.proofs.around.owned_before.Goals as goal
+
+pub returns : goal.returns
+returns c = says_some _ c.any.ensures.ran refl (λ x z. (hb_low c.requires.table).left z.1.1.1) (λ x b q k. search rules)
