@@ -9,7 +9,6 @@ use batches::{Item, MOST, item_at};
 use judge::{Report, judge};
 use lines::write_answer;
 use refusals::Refusal;
-use text::put;
 
 // What a step gives: the answer of a table and where the next begins, or how the batch ended. Both are answers to what was asked, so that neither is the
 // error of a `Result`.
@@ -87,6 +86,6 @@ pub fn write_answers(batch: &[u8], out: &mut [u8]) -> Result<Answers, Refusal>
     if out.len() < answers.bytes {
         return Err(Refusal::Room);
     }
-    put(out, 0, &text[..answers.bytes]);
+    out[..answers.bytes].copy_from_slice(&text[..answers.bytes]);
     Ok(answers)
 }

@@ -10,7 +10,7 @@ use lib.ListN.{get_or}
 use Rattle.laws.specs.Steps.{Rel, Plus}
 use Rattle.laws.proofs.Closure.{Stage, Stage.direct, Through, stage_through, through_stage, stage_zero, stage_plus, plus_stage}
 use Rattle.rows.specs.Rows.{On, Cell, MadeRow, Made}
-use Rattle.rows.specs.Found.{NextOf}
+use Rattle.rows.proofs.Along.{Gap, gap_low}
 use Rattle.rows.proofs.Rows.{holds_itself, made_held, made_iff, made_again, made_row_iff, made_room, made_trans}
 use Rattle.closure.specs.Classes.{InClasses}
 
@@ -37,19 +37,17 @@ passed_same :
     → Made w n (Passed k i S) m₀ m → Made w n (Passed k j S) m₀ m
 passed_same f g = made_iff (λ a b l. passed_to (f b l)) (λ a b l. passed_to (g b l))
 
+-- all rows
+pub passed_all :
+    {w n k : ℕ} {S : Rel} {m₀ m : List (List ℕ)} → Made w n (Passed k n S) m₀ m → Made w n (λ a b. S a b ⊎ (S a k × S k b)) m₀ m
+passed_all = made_iff (λ a b l. ⊎_map (λ s. s) (λ v. (v.to, v.from))) (λ a b l. ⊎_map (λ s. s) (λ z. record { low = l; to = z.0; from = z.1 }))
+
 module _ {w n h k : ℕ} {class : List ℕ} {members m₀ : List (List ℕ)} (given : InClasses w n h class members m₀) where
   -- k leads to no number that is not a member of its class
-  next_member : {lo i : ℕ} → NextOf w members (get_or class k 0) lo i → (b : ℕ) → Cell w n m₀ k b → b < i → b < lo
-  next_member {lo} {i} next b s l = by (dec_lt b lo)
-    where
-      by : Dec (b < lo) → b < lo
-      by (yes h) = h
-      by (no h) = absurd (next.before b (omega arith) l (given.within k b s))
-
   pub passed_next :
-      {lo i : ℕ} {m : List (List ℕ)} → NextOf w members (get_or class k 0) lo i → Made w n (Passed k lo (Cell w n m₀)) m₀ m
+      {lo i : ℕ} {m : List (List ℕ)} → Gap w members (get_or class k 0) lo i → Made w n (Passed k lo (Cell w n m₀)) m₀ m
       → Made w n (Passed k i (Cell w n m₀)) m₀ m
-  passed_next next = passed_same (λ b l s h. omega (arith, next.low)) (λ b l s h. next_member next b s h)
+  passed_next gap = passed_same (λ b l s h. omega (arith, gap.from)) (λ b l s h. gap_low gap b h (given.within k b s))
 
   module _ {b : ℕ} {m : List (List ℕ)} (low : b < n) (p : Made w n (Passed k b (Cell w n m₀)) m₀ m) where
     -- row b was not changed yet

@@ -6,7 +6,6 @@ ghost use Rattle.rows.specs.Steps.{Then};
 ghost use Rattle.closure.specs.Classes.{InClasses};
 
 use rows::row::{has, put, row};
-use rows::search::next;
 use rows::set::Set;
 
 // Steps by way of k: each row of k's class that has k takes in row k.
@@ -23,13 +22,11 @@ fn close_through<const W: usize>(
 {
     let via = &row(m, k);
     let c = class[k] as usize;
-    let mut b = next(members, c, 0);
-    while b < n {
+    for b in row(members, c).below(n) {
         if has(m, k, b) {
             let joined = row(m, b).or(*via);
             put(m, b, joined);
         }
-        b = next(members, c, b + 1);
     }
 }
 
@@ -79,10 +76,8 @@ fn gather_row<const W: usize>(
     ensures { MadeRow W b (λ a. Then (Cell W n x.now) (On W m.now) a b) out.old out.new }
 {
     let mut all = Set::nothing();
-    let mut v = next(m, b, 0);
-    while v < n {
+    for v in row(m, b).below(n) {
         all = all.or(row(x, v));
-        v = next(m, b, v + 1);
     }
     put(out, b, all);
 }

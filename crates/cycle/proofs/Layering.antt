@@ -11,7 +11,7 @@ use Rattle.laws.proofs.Closure.{tri}
 use Rattle.rows.specs.declared.set.Set.{Set}
 use Rattle.rows.specs.Sets.{In, Is}
 use Rattle.rows.specs.Rows.{On, MadeRow}
-use Rattle.rows.specs.Found.{NextOf}
+use Rattle.rows.proofs.Along.{Gap, gap_low}
 use Rattle.rows.proofs.Rows.{made_row_iff, holds_more}
 use Rattle.rows.proofs.Sets.{in_dec, is_iff, either_of}
 use Rattle.cycle.specs.Distances.{Reaches}
@@ -25,22 +25,27 @@ pub record EntersBelow (w n : ℕ) (m layers : List (List ℕ)) (e c a : ℕ) : 
   pub below : enters.to < c
 
 module _ {w n e : ℕ} {m layers : List (List ℕ)} where
+  -- none of the row's numbers is between
+  pub enters_next : {x : Set w} {at c : ℕ} → Gap w layers e at c → Is x (EntersBelow w n m layers e at) → Is x (EntersBelow w n m layers e c)
+  enters_next gap =
+      is_iff (λ a t. record { enters = t.enters; below = omega (arith, t.below, gap.from) })
+      (λ a t. record { enters = t.enters; below = gap_low gap t.enters.to t.below t.enters.on })
+
   pub enters_more :
-      {x y z : Set w} {c r : ℕ} → c < n → On w layers c e → Is y (λ a. On w m a c) → NextOf w layers e (c + 1) r → Is z (λ a. In x a ⊎ In y a)
-      → Is x (EntersBelow w n m layers e c) → Is z (EntersBelow w n m layers e r)
-  enters_more {x} {y} {z} {c} {r} l o j f k i = is_iff (λ a. ⊎_elim (old a) (new a)) from (either_of i j k)
+      {x y z : Set w} {c : ℕ} → c < n → On w layers c e → Is y (λ a. On w m a c) → Is z (λ a. In x a ⊎ In y a)
+      → Is x (EntersBelow w n m layers e c) → Is z (EntersBelow w n m layers e (c + 1))
+  enters_more {c = c} l o j k i = is_iff (λ a. ⊎_elim (old a) (new a)) from (either_of i j k)
     where
-      old : (a : ℕ) → EntersBelow w n m layers e c a → EntersBelow w n m layers e r a
-      old a t = record { enters = t.enters; below = omega (arith, t.below, f.low) }
+      old : (a : ℕ) → EntersBelow w n m layers e c a → EntersBelow w n m layers e (c + 1) a
+      old a t = record { enters = t.enters; below = omega (arith, t.below) }
 
-      new : (a : ℕ) → On w m a c → EntersBelow w n m layers e r a
-      new a h = record { enters = record { to = c; step = record { row = l; on = h }; on = o }; below = omega (arith, f.low) }
+      new : (a : ℕ) → On w m a c → EntersBelow w n m layers e (c + 1) a
+      new a h = record { enters = record { to = c; step = record { row = l; on = h }; on = o }; below = omega arith }
 
-      from : (a : ℕ) → EntersBelow w n m layers e r a → EntersBelow w n m layers e c a ⊎ On w m a c
+      from : (a : ℕ) → EntersBelow w n m layers e (c + 1) a → EntersBelow w n m layers e c a ⊎ On w m a c
       from a t =
-          let to = t.enters.to in
-          tri {C = EntersBelow w n m layers e c a ⊎ On w m a c} to c (λ h. inl (record { enters = t.enters; below = h })) (λ q. inr (subst (On w m a) q t.enters.step.on))
-          (λ h. absurd (f.before to (omega arith) t.below t.enters.on))
+          tri {C = EntersBelow w n m layers e c a ⊎ On w m a c} t.enters.to c (λ h. inl (record { enters = t.enters; below = h }))
+          (λ q. inr (subst (On w m a) q t.enters.step.on)) (λ h. absurd (omega (arith, h, t.below)))
 
   pub enters_all : {x : Set w} {c : ℕ} → n ≤ c → Is x (EntersBelow w n m layers e c) → Is x (Enters w n m layers e)
   enters_all h = is_iff (λ a t. t.enters) (λ a t. record { enters = t; below = omega (arith, t.step.row) })

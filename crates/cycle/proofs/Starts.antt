@@ -14,19 +14,10 @@ use Rattle.laws.proofs.Steps.{Within}
 use Rattle.laws.proofs.Walks.{joined, least_closed_walk, cycle_fits}
 use Rattle.laws.proofs.Closure.{tri}
 use Rattle.rows.specs.Rows.{On, MadeRow}
-use Rattle.rows.specs.Found.{NextOf}
-use Rattle.rows.proofs.Along.{along_more}
+use Rattle.rows.proofs.Along.{Gap, along_next, along_more}
 use Rattle.cycle.specs.Distances.{Reaches}
 use Rattle.cycle.specs.Rounds.{Step, Fewest, Upto, Layers, Back, Chosen, StartOf, Rest, FirstStep}
 use Rattle.cycle.proofs.Layering.{reach_alive, last_reach, fewest_on, fewest_next}
-
--- what a row has from lo on stands at the next number or past it
-from_next : {w b lo r : ℕ} {m : List (List ℕ)} → NextOf w m b lo r → (a : ℕ) → On w m a b → lo ≤ a → r ≤ a
-from_next {r = r} f a o h = by (dec_lt a r)
-  where
-    by : Dec (a < r) → r ≤ a
-    by (yes l) = absurd (f.before a h l o)
-    by (no l) = omega arith
 
 above : {a s : ℕ} → s ≤ a → ¬ (a ≡ s) → s + 1 ≤ a
 above {a} {s} h n = tri {C = s + 1 ≤ a} a s (λ l. absurd (omega arith)) (λ e. absurd (n e)) (λ l. omega arith)
@@ -81,12 +72,21 @@ module _ {w s : ℕ} {alive rest : List (List ℕ)} (q : Rest w alive rest s) (n
       (λ y. let round = way_round y in below y.by y.low (reach_alive round) k (subst (Reaches (Step w n m alive) y.by y.by) z.long round))
       (ways s z.by s (omega arith) (omega arith) z.walk)
 
+-- nothing between is alive
+pub rest_next : {w at s : ℕ} {alive rest : List (List ℕ)} → Gap w alive 0 at s → Rest w alive rest at → Rest w alive rest s
+rest_next {w} {at} {s} {alive} gap q = record { all = λ a o h. q.all a o (omega (arith, gap.from)); only = λ a o. let (u, h) = q.only a o in (u, by a u h (dec_lt a s)) }
+  where
+    by : (a : ℕ) → On w alive a 0 → at ≤ a → Dec (a < s) → s ≤ a
+    by a u h (yes l) = absurd (gap.empty a h l u)
+    by a u h (no l) = omega arith
+
+-- s is left out
 pub rest_less :
-    {w s t : ℕ} {alive rest rest' : List (List ℕ)} → MadeRow w 0 (λ x. On w rest x 0 × (¬ (x ≡ s))) rest rest' → NextOf w alive 0 (s + 1) t
-    → Rest w alive rest s → Rest w alive rest' t
-rest_less d f q = record {
-  all = λ a o h. let k = f.low in d.all a (q.all a o (omega arith), λ e. omega (arith, e));
-  only = λ a o. let (p, other) = d.only a o in let (u, h) = q.only a p in (u, from_next f a u (above h other));
+    {w s : ℕ} {alive rest rest' : List (List ℕ)} → MadeRow w 0 (λ x. On w rest x 0 × (¬ (x ≡ s))) rest rest' → Rest w alive rest s
+    → Rest w alive rest' (s + 1)
+rest_less d q = record {
+  all = λ a o h. d.all a (q.all a o (omega arith), λ e. omega (arith, e));
+  only = λ a o. let (p, other) = d.only a o in let (u, h) = q.only a p in (u, above h other);
 }
 
 -- ---- the start
@@ -101,21 +101,32 @@ pub record Sofar (w n : ℕ) (m alive : List (List ℕ)) (best : ℕ) (at : Opti
   pub first : (t : ℕ) → at ≡ Some t → (a k : ℕ) → a < t → Reaches (Step w n m alive) a a k → best < k
 
 module _ {w n : ℕ} {m alive : List (List ℕ)} where
-  module _ {best s r t : ℕ} {at : Option ℕ} {rest layers : List (List ℕ)} (q : Rest w alive rest s) (b : Back (Step w n m rest) w s best r layers) (f : NextOf w alive 0 (s + 1) t) where
-    pub start_take : r < best → s < n → Sofar w n m alive best at s → Sofar w n m alive r (Some s) t
+  -- nothing between is alive
+  pub sofar_next : {best lo s : ℕ} {at : Option ℕ} → Gap w alive 0 lo s → Sofar w n m alive best at lo → Sofar w n m alive best at s
+  sofar_next {best} gap p = record {
+    small = p.small;
+    few = along_next (λ a. (k : ℕ) → Reaches (Step w n m alive) a a k → best ≤ k) gap p.few;
+    unset = p.unset;
+    low = p.low;
+    reach = p.reach;
+    first = p.first;
+  }
+
+  module _ {best s r : ℕ} {at : Option ℕ} {rest layers : List (List ℕ)} (q : Rest w alive rest s) (b : Back (Step w n m rest) w s best r layers) where
+    pub start_take : r < best → s < n → Sofar w n m alive best at s → Sofar w n m alive r (Some s) (s + 1)
     start_take l h p = record {
       small = omega (arith, p.small);
-      few = along_more (λ a. (k : ℕ) → Reaches (Step w n m alive) a a k → r ≤ k) (λ a g o k z. omega (arith, p.few a g o k z)) (λ o k z. ⊎_elim (λ h. h) (λ h. omega arith) (few_by q n m p.few b.few k z)) f;
+      few = along_more (λ a. (k : ℕ) → Reaches (Step w n m alive) a a k → r ≤ k) (λ a g o k z. omega (arith, p.few a g o k z)) (λ o k z. ⊎_elim (λ h. h) (λ h. omega arith) (few_by q n m p.few b.few k z));
       unset = λ e. cc;
       low = λ u e. omega (arith, p.small);
       reach = λ u e. let i : s ≡ u = cc in subst (λ (x : ℕ). Reaches (Step w n m alive) x x r) i (rest_reach q n m (b.reach l));
       first = λ u e a k g z. let i : s ≡ u = cc in omega (arith, p.few a (omega arith) (reach_alive z) k z);
     }
 
-    pub start_keep : best ≤ r → Sofar w n m alive best at s → Sofar w n m alive best at t
+    pub start_keep : best ≤ r → Sofar w n m alive best at s → Sofar w n m alive best at (s + 1)
     start_keep l p = record {
       small = p.small;
-      few = along_more (λ a. (k : ℕ) → Reaches (Step w n m alive) a a k → best ≤ k) p.few (λ o k z. ⊎_elim (λ h. omega arith) (λ h. h) (few_by q n m p.few b.few k z)) f;
+      few = along_more (λ a. (k : ℕ) → Reaches (Step w n m alive) a a k → best ≤ k) p.few (λ o k z. ⊎_elim (λ h. omega arith) (λ h. h) (few_by q n m p.few b.few k z));
       unset = p.unset;
       low = p.low;
       reach = p.reach;

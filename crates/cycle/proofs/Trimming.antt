@@ -17,7 +17,7 @@ use Rattle.laws.proofs.Walks.{walk_plus}
 use Rattle.rows.specs.declared.set.Set.{Set}
 use Rattle.rows.specs.Sets.{In, Is}
 use Rattle.rows.specs.Rows.{On, Cell, MadeRow}
-use Rattle.rows.specs.Found.{NextOf}
+use Rattle.rows.proofs.Along.{Gap, gap_low}
 use Rattle.cycle.specs.Trimmed.{Keeps, Feeds}
 use Rattle.cycle.specs.Rounds.{Step}
 
@@ -79,12 +79,9 @@ module _ {w n : ℕ} {m : List (List ℕ)} where
     all = λ a c l q r. j.all a (tri {C = In _ a ⊎ In x a} c b (λ h. inl (f.all a c h q r)) (λ e. inr (i.all a (subst (On w m a) e r.on))) (λ h. absurd (omega arith)));
   }
 
-  pub feeds_next : {alive : List (List ℕ)} {s : Set w} {lo r : ℕ} → NextOf w alive 0 lo r → Feeds w n m lo alive s → Feeds w n m r alive s
-  feeds_next {s = s} {lo = lo} {r = r} g f = record { keeps = f.keeps; all = λ a c l q. by a c l q (dec_lt c lo) }
-    where
-      by : (a c : ℕ) → c < r → Plus (Cell w n m) c c → Dec (c < lo) → Cell w n m a c → In s a
-      by a c l q (yes h) = f.all a c h q
-      by a c l q (no h) = absurd (g.before c (omega arith) l (f.keeps.cycles c q))
+  -- nothing between was alive
+  pub feeds_next : {alive₀ alive : List (List ℕ)} {s : Set w} {at v : ℕ} → Keeps w n m alive₀ → Gap w alive₀ 0 at v → Feeds w n m at alive s → Feeds w n m v alive s
+  feeds_next k gap f = record { keeps = f.keeps; all = λ a c l q. f.all a c (gap_low gap c l (k.cycles c q)) q }
 
   -- what leads to nothing on a cycle is dropped
   pub keeps_fed :

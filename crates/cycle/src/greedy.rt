@@ -4,7 +4,6 @@ ghost use Rattle.cycle.specs.Rounds.{Step, LayerRoom, StartOf, Choosing, FirstSt
 
 use crate::layers::steps_back;
 use rows::row::{drop, has, put, row};
-use rows::search::next;
 
 // The first number with the fewest steps back to itself, if there is one. A number that was tried is left out from then on: whatever leads back by way
 // of it was met. `rest` is room for a row.
@@ -21,15 +20,13 @@ pub fn least_start<const W: usize>(
     put(rest, 0, row(alive, 0));
     let mut best = n + 1;
     let mut at = None;
-    let mut s = next(alive, 0, 0);
-    while s < n {
+    for s in row(alive, 0).below(n) {
         let len = steps_back(m, n, rest, s, best, layers);
         if len < best {
             best = len;
             at = Some(s);
         }
         drop(rest, s, 0);
-        s = next(alive, 0, s + 1);
     }
     at
 }
@@ -45,12 +42,10 @@ fn next_of<const W: usize>(
     requires { Choosing W n m.now layers.now e a }
     ensures { FirstStep W n m.now layers.now e a result }
 {
-    let mut x = next(layers, e, 0);
-    while x < n {
+    for x in row(layers, e).below(n) {
         if has(m, a, x) {
             return x;
         }
-        x = next(layers, e, x + 1);
     }
     n
 }

@@ -5,7 +5,6 @@ ghost use Rattle.rows.specs.Rows.{Room};
 ghost use Rattle.cycle.specs.Rounds.{Step, Enters, Layers, Searches, Onward, Back};
 
 use rows::row::{has, put, row};
-use rows::search::next;
 use rows::set::Set;
 
 // What has a step to a number of row e.
@@ -14,10 +13,8 @@ fn leading_in<const W: usize>(m: &[[u64; W]], n: usize, layers: &[[u64; W]], e: 
     ensures { Is result (Enters W n m.now layers.now e) }
 {
     let mut found = Set::nothing();
-    let mut c = next(layers, e, 0);
-    while c < n {
+    for c in row(layers, e).below(n) {
         found = found.or(row(m, c));
-        c = next(layers, e, c + 1);
     }
     found
 }

@@ -3,7 +3,6 @@ ghost use Rattle.rows.specs.Rows.{Room};
 ghost use Rattle.cycle.specs.Trimmed.{Trims, TrimRoom, Filled, Keeps, Feeds};
 
 use rows::row::{add, drop, put, row};
-use rows::search::next;
 use rows::set::Set;
 
 // The numbers below n.
@@ -23,15 +22,13 @@ fn drop_unfed<const W: usize>(m: &[[u64; W]], n: usize, alive: &mut [[u64; W]]) 
     ensures { Feeds W n m.now n alive.new result }
 {
     let mut sources = Set::nothing();
-    let mut b = next(alive, 0, 0);
-    while b < n {
+    for b in row(alive, 0).below(n) {
         let before = &row(m, b);
         if before.and(row(alive, 0)).is_empty() {
             drop(alive, b, 0);
         } else {
             sources = sources.or(*before);
         }
-        b = next(alive, 0, b + 1);
     }
     sources
 }

@@ -17,7 +17,7 @@ ghost use Rattle.edit.specs.Cut.{RaceKept, Lacking};
 use basis::lay;
 use columns::Fields;
 use limits::LIMIT;
-use rows::search::next;
+use rows::row::row;
 use seeking::reads::stands_on_race;
 use selections::names;
 
@@ -35,12 +35,10 @@ fn any_kept<const W: usize>(selection: &[u8], race: &[[u64; W]], n: usize, b: us
     requires { (b < n) × (n ≤ 8 * length selection.now) × Room W n n race.now }
     ensures { Says result ((a : ℕ) × ((a < n) × (T (named selection.now a) × On W race.now a b))) }
 {
-    let mut a = next(race, b, 0);
-    while a < n {
+    for a in row(race, b).below(n) {
         if names(selection, a) {
             return true;
         }
-        a = next(race, b, a + 1);
     }
     false
 }

@@ -8,32 +8,34 @@ ghost use Rattle.lines.specs.Lines.{witness_text, lines_of};
 ghost use Rattle.lines.specs.Witnesses.{witness_in, Whole, buffer_of, witnesses, AllWhole};
 
 use findings::{Finding, Findings, Found};
-use text::{put, put_each, put_spaced};
+use text::Text;
 
 // What stands after a finding's name; the records of a cycle stand at the front of `records`.
-fn put_witness(out: &mut [u8], at: usize, found: Found, records: &[u8]) -> usize
-    requires { Room out.old at (witness_text (witness_in found records.now)) × Whole found records.now }
-    ensures { Written out.old at (witness_text (witness_in found records.now)) out.new result }
+fn put_witness(text: &mut Text<'_>, found: Found, records: &[u8])
+    requires { Room text.old.out.now text.old.at (witness_text (witness_in found records.now)) × Whole found records.now }
+    ensures same_reference { text.new.out.ghost_name ≡ text.old.out.ghost_name }
+    ensures written { Written text.old.out.now text.old.at (witness_text (witness_in found records.now)) text.new.out.now text.new.at }
 {
     match found {
-        Found::Nothing => put(out, at, b" none"),
-        Found::Record(n) => put_spaced(out, at, n),
+        Found::Nothing => text.put(b" none"),
+        Found::Record(n) => text.put_spaced(n),
         Found::Pair(p, q) => {
-            let next = put_spaced(out, at, p);
-            put_spaced(out, next, q)
+            text.put_spaced(p);
+            text.put_spaced(q)
         }
-        Found::Cycle(len) => put_each(out, at, records, len),
+        Found::Cycle(len) => text.put_each(records, len),
     }
 }
 
 // The line of one finding; the records of a cycle stand at the front of `records`.
-fn finding_line(out: &mut [u8], at: usize, finding: Finding, found: Found, records: &[u8]) -> usize
-    requires { Room out.old at (line (name_of finding) (witness_text (witness_in found records.now))) × Whole found records.now }
-    ensures { Written out.old at (line (name_of finding) (witness_text (witness_in found records.now))) out.new result }
+fn finding_line(text: &mut Text<'_>, finding: Finding, found: Found, records: &[u8])
+    requires { Room text.old.out.now text.old.at (line (name_of finding) (witness_text (witness_in found records.now))) × Whole found records.now }
+    ensures same_reference { text.new.out.ghost_name ≡ text.old.out.ghost_name }
+    ensures written { Written text.old.out.now text.old.at (line (name_of finding) (witness_text (witness_in found records.now))) text.new.out.now text.new.at }
 {
-    let name = put(out, at, finding.name());
-    let rest = put_witness(out, name, found, records);
-    put(out, rest, b"\n")
+    text.put(finding.name());
+    put_witness(text, found, records);
+    text.put(b"\n")
 }
 
 // Where the records of a finding's cycle stand.
@@ -47,21 +49,14 @@ fn buffer_of<'a>(finding: Finding, first: &'a [u8], second: &'a [u8]) -> &'a [u8
 }
 
 // A line for each finding, in order; the records of the cycles stand at the front of `first` and `second`.
-pub fn put_findings<'a>(
-    out: &mut [u8],
-    at: usize,
-    x: Findings,
-    first: &'a [u8],
-    second: &'a [u8],
-) -> usize
-    requires { Room out.old at (lines_of (witnesses x first.now second.now) all_in_order) × AllWhole x first.now second.now }
-    ensures { Written out.old at (lines_of (witnesses x first.now second.now) all_in_order) out.new result }
+pub fn put_findings<'a>(text: &mut Text<'_>, x: Findings, first: &'a [u8], second: &'a [u8])
+    requires { Room text.old.out.now text.old.at (lines_of (witnesses x first.now second.now) all_in_order) × AllWhole x first.now second.now }
+    ensures same_reference { text.new.out.ghost_name ≡ text.old.out.ghost_name }
+    ensures written { Written text.old.out.now text.old.at (lines_of (witnesses x first.now second.now) all_in_order) text.new.out.now text.new.at }
 {
-    let mut next = at;
     for finding in Finding::IN_ORDER {
         let found = x.of(finding);
         let records = buffer_of(finding, first, second);
-        next = finding_line(out, next, finding, found, records);
+        finding_line(text, finding, found, records);
     }
-    next
 }

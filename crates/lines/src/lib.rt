@@ -3,7 +3,7 @@
 
 mod family;
 
-ghost use Rattle.std.specs.Prelude.{◌≤◌, length};
+ghost use Rattle.std.specs.Prelude.{◌≡◌, ◌≤◌, length};
 ghost use Rattle.text.specs.Text.{Written};
 ghost use Rattle.phrases.specs.Phrases.{line};
 ghost use Rattle.phrases.specs.Room.{Room};
@@ -19,37 +19,39 @@ use judge::Report;
 use limits::LIMIT;
 use phrases::{hand_over, number_line, put_refused};
 use refusals::Refusal;
-use text::put;
+use text::Text;
 
 // Room for the longest text: `longest` of the definitions.
 pub const TEXT: usize = 32 + Finding::COUNT * (8 + 4 * LIMIT);
 
-fn verdict_line(out: &mut [u8], at: usize, verdict: Verdict) -> usize
-    requires { Room out.old at (line verdict_word (verdict_text verdict)) }
-    ensures { Written out.old at (line verdict_word (verdict_text verdict)) out.new result }
+fn verdict_line(text: &mut Text<'_>, verdict: Verdict)
+    requires { Room text.old.out.now text.old.at (line verdict_word (verdict_text verdict)) }
+    ensures same_reference { text.new.out.ghost_name ≡ text.old.out.ghost_name }
+    ensures written { Written text.old.out.now text.old.at (line verdict_word (verdict_text verdict)) text.new.out.now text.new.at }
 {
     match verdict {
-        Verdict::Undefined => put(out, at, b"verdict undefined\n"),
-        Verdict::Inconsistent => put(out, at, b"verdict inconsistent\n"),
-        Verdict::Consistent => put(out, at, b"verdict consistent\n"),
+        Verdict::Undefined => text.put(b"verdict undefined\n"),
+        Verdict::Inconsistent => text.put(b"verdict inconsistent\n"),
+        Verdict::Consistent => text.put(b"verdict consistent\n"),
     }
 }
 
 // The whole report; the records of its cycles stand at the front of `first` and `second`.
 fn put_report<'a>(
-    out: &mut [u8],
+    text: &mut Text<'_>,
     events: usize,
     x: Findings,
     verdict: Verdict,
     first: &'a [u8],
     second: &'a [u8],
-) -> usize
-    requires { Room out.old 0 (report_text events (witnesses x first.now second.now) verdict) × AllWhole x first.now second.now }
-    ensures { Written out.old 0 (report_text events (witnesses x first.now second.now) verdict) out.new result }
+)
+    requires { Room text.old.out.now text.old.at (report_text events (witnesses x first.now second.now) verdict) × AllWhole x first.now second.now }
+    ensures same_reference { text.new.out.ghost_name ≡ text.old.out.ghost_name }
+    ensures written { Written text.old.out.now text.old.at (report_text events (witnesses x first.now second.now) verdict) text.new.out.now text.new.at }
 {
-    let found = number_line(out, 0, b"events", events);
-    let last = put_findings(out, found, x, first, second);
-    verdict_line(out, last, verdict)
+    number_line(text, b"events", events);
+    put_findings(text, x, first, second);
+    verdict_line(text, verdict)
 }
 
 // The text of a judging's answer at the front of `out`, and its length; the records of its cycles stand at the front of `first` and `second`.
@@ -62,14 +64,16 @@ pub fn put_judged<'a>(
     requires { Room out.old 0 (judged_text judged first.now second.now) × JudgedWhole judged first.now second.now }
     ensures { Written out.old 0 (judged_text judged first.now second.now) out.new result }
 {
+    let mut text = Text { out, at: 0 };
     match judged {
-        Err(r) => put_refused(out, 0, r.told()),
+        Err(r) => put_refused(&mut text, r.told()),
         Ok(x) => {
             let found = x.findings;
             let verdict = x.verdict;
-            put_report(out, x.events, found, verdict, first, second)
+            put_report(&mut text, x.events, found, verdict, first, second);
         }
     }
+    text.at
 }
 
 // The text of a table's answer at the front of `out`, and its length.

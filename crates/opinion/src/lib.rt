@@ -11,7 +11,7 @@ use lines::{TEXT, put_judged};
 use phrases::hand_over;
 use record::places::SIZE;
 use refusals::Refusal;
-use text::put;
+use text::Text;
 
 // "384 bytes (24 records)": a longer input is not judged.
 pub const MOST: usize = 24 * SIZE;
@@ -33,7 +33,9 @@ fn put_opinion(input: &[u8], out: &mut [u8]) -> usize
     ensures { OpinionAt input.now out.new result }
 {
     if MOST < input.len() {
-        return put(out, 0, b"too large\n");
+        let mut text = Text { out, at: 0 };
+        text.put(b"too large\n");
+        return text.at;
     }
     put_answer(input, out)
 }

@@ -42,8 +42,8 @@ module _ (text before : List ℕ) where
   pub too_short : length before < length text → Writes (IsText text) before before (Err refusal.Room)
   too_short h = Writes.no_room the_text h refl refl
 
-  pub handed : length text ≤ length before → {after : List ℕ} {r : ℕ} → Written before 0 text after r → Writes (IsText text) before after (Ok (length text))
-  handed h w = Writes.written the_text refl h (w.holds ∙ ap (λ (n : ℕ). text ++ drop n before) (zero-add (length text)))
+  pub handed : length text ≤ length before → {copied : List ℕ} → copied ≡ text → Writes (IsText text) before (copied ++ drop (length text) before) (Ok (length text))
+  handed h is = Writes.written the_text refl h (ap (λ (l : List ℕ). l ++ drop (length text) before) is)
 
 -- ---- one result, where there is one such text
 

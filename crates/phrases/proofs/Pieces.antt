@@ -20,20 +20,7 @@ pub room_as : {A : Type 0} (text : A → List ℕ) (out : List ℕ) (at : ℕ) {
 room_as text out at e h = subst (λ x. Room out at (text x)) e h
 
 -- three pieces
-module _ (out : List ℕ) (at : ℕ) (s u v : List ℕ) (room : Room out at (s ++ (u ++ v))) where
-  pub first_room : Room out at s
-  first_room = room_front out at s (u ++ v) room
-
-  module _ {mid : List ℕ} {m : ℕ} (first : Written out at s mid m) where
-    back : Room mid m (u ++ v)
-    back = room_back (u ++ v) room first
-
-    pub second_room : Room mid m u
-    second_room = room_front mid m u v back
-
-    module _ {mid' : List ℕ} {m' : ℕ} (second : Written mid m u mid' m') where
-      pub third_room : Room mid' m' v
-      third_room = room_back v back second
-
-      pub all_three : {after : List ℕ} {r : ℕ} → Written mid' m' v after r → Written out at (s ++ (u ++ v)) after r
-      all_three third = written_then room first (written_then back second third)
+pub written_three :
+    {out : List ℕ} {at : ℕ} {s mid : List ℕ} {m : ℕ} {u mid' : List ℕ} {m' : ℕ} {v after : List ℕ} {r : ℕ} → Room out at (s ++ (u ++ v))
+    → Written out at s mid m → Written mid m u mid' m' → Written mid' m' v after r → Written out at (s ++ (u ++ v)) after r
+written_three {u = u} {v = v} room first second third = written_then room first (written_then (room_back (u ++ v) room first) second third)

@@ -89,6 +89,14 @@ module _ {w b lo : ℕ} {m : List (List ℕ)} where
       by a h l (yes k) = g.empty a h k
       by a h l (no k) = f a (omega arith) l
 
+  -- what the row has before at is before lo
+  pub gap_low : {at : ℕ} → Gap w m b lo at → (a : ℕ) → a < at → On w m a b → a < lo
+  gap_low {at} g a l o = by (dec_lt a lo)
+    where
+      by : Dec (a < lo) → a < lo
+      by (yes h) = h
+      by (no h) = absurd (g.empty a (omega arith) l o)
+
   pub gap_found : {at : ℕ} → Gap w m b lo at → On w m at b → NextOf w m b lo at
   gap_found g o = record { low = g.from; high = omega (arith, o.col); before = g.empty; on = λ _. o }
 
@@ -161,11 +169,10 @@ module _ {w b : ℕ} {m : List (List ℕ)} where
           by_word a o n (yes h) = absurd (c.from a (omega arith) o)
           by_word a o n (no h) = omega arith
 
--- the numbers of a row, one after another: what holds of those before k, and of k, holds of those before the next
+-- the numbers of a row, one after another: what holds of those before at, and of the next, holds of those up to it
 module _ {w b : ℕ} {m : List (List ℕ)} (P : ℕ → Type 0) where
-  pub along_none : {r : ℕ} → NextOf w m b 0 r → (a : ℕ) → a < r → On w m a b → P a
-  along_none f a l o = absurd (f.before a (omega arith) l o)
+  pub along_next : {at v : ℕ} → Gap w m b at v → ((a : ℕ) → a < at → On w m a b → P a) → (a : ℕ) → a < v → On w m a b → P a
+  along_next gap old a l o = old a (gap_low gap a l o) o
 
-  pub along_more :
-      {k r : ℕ} → ((a : ℕ) → a < k → On w m a b → P a) → (On w m k b → P k) → NextOf w m b (k + 1) r → (a : ℕ) → a < r → On w m a b → P a
-  along_more {k} {r} old new f a l o = tri a k (λ h. old a h o) (λ e. subst P (sym e) (new (subst (λ (z : ℕ). On w m z b) e o))) (λ h. absurd (f.before a (omega arith) l o))
+  pub along_more : {v : ℕ} → ((a : ℕ) → a < v → On w m a b → P a) → (On w m v b → P v) → (a : ℕ) → a < v + 1 → On w m a b → P a
+  along_more {v} old new a l o = tri a v (λ h. old a h o) (λ e. subst P (sym e) (new (subst (λ (z : ℕ). On w m z b) e o))) (λ h. absurd (omega arith))

@@ -7,4 +7,5 @@ pub mod Noted
 pub mod Leading
 pub mod Along
 pub mod Steps
+pub mod Walking
 pub mod Unique

@@ -3,6 +3,7 @@
 
 pub mod bits;
 pub mod led;
+pub mod numbers;
 pub mod row;
 pub mod search;
 pub mod set;

@@ -1,7 +1,7 @@
 // Monday's figures as text, line by line.
 #![tactic(auto)]
 
-ghost use Rattle.std.specs.Prelude.{◌++◌, ◌≤◌, length};
+ghost use Rattle.std.specs.Prelude.{◌≡◌, ◌++◌, ◌≤◌, length};
 ghost use Rattle.findings.specs.Family.{all_in_order, name_of};
 ghost use Rattle.batches.specs.Batch.{refused, end_of};
 ghost use Rattle.text.specs.Text.{Written, each, spaced};
@@ -17,107 +17,113 @@ use monday::{Monday, figures_of};
 use phrases::{hand_over, number_line, put_refused};
 use refusals::{Refusal, Told};
 use tally::{EACH_NUMBER, Figures, NUMBERS};
-use text::{put, put_spaced};
+use text::Text;
 
 // Room for the longest text: `longest_sheet` of the definitions.
 pub const SHEET: usize = 21 * (6 + NUMBERS + Finding::COUNT);
 
 // Two numbers, one space before each.
-fn put_two(out: &mut [u8], at: usize, first: usize, second: usize) -> usize
-    requires { Room out.old at (spaced first ++ spaced second) }
-    ensures { Written out.old at (spaced first ++ spaced second) out.new result }
+fn put_two(text: &mut Text<'_>, first: usize, second: usize)
+    requires { Room text.old.out.now text.old.at (spaced first ++ spaced second) }
+    ensures same_reference { text.new.out.ghost_name ≡ text.old.out.ghost_name }
+    ensures written { Written text.old.out.now text.old.at (spaced first ++ spaced second) text.new.out.now text.new.at }
 {
-    let next = put_spaced(out, at, first);
-    put_spaced(out, next, second)
+    text.put_spaced(first);
+    text.put_spaced(second)
 }
 
-fn refused_line(out: &mut [u8], at: usize, number: usize, count: usize) -> usize
-    requires { Room out.old at (line refused_word (spaced number ++ spaced count)) }
-    ensures { Written out.old at (line refused_word (spaced number ++ spaced count)) out.new result }
+fn refused_line(text: &mut Text<'_>, number: usize, count: usize)
+    requires { Room text.old.out.now text.old.at (line refused_word (spaced number ++ spaced count)) }
+    ensures same_reference { text.new.out.ghost_name ≡ text.old.out.ghost_name }
+    ensures written { Written text.old.out.now text.old.at (line refused_word (spaced number ++ spaced count)) text.new.out.now text.new.at }
 {
-    let word = put(out, at, b"refused");
-    let rest = put_two(out, word, number, count);
-    put(out, rest, b"\n")
+    text.put(b"refused");
+    put_two(text, number, count);
+    text.put(b"\n")
 }
 
-fn found_line(out: &mut [u8], at: usize, finding: Finding, count: usize) -> usize
-    requires { Room out.old at (line (name_of finding) (spaced count)) }
-    ensures { Written out.old at (line (name_of finding) (spaced count)) out.new result }
+fn found_line(text: &mut Text<'_>, finding: Finding, count: usize)
+    requires { Room text.old.out.now text.old.at (line (name_of finding) (spaced count)) }
+    ensures same_reference { text.new.out.ghost_name ≡ text.old.out.ghost_name }
+    ensures written { Written text.old.out.now text.old.at (line (name_of finding) (spaced count)) text.new.out.now text.new.at }
 {
-    number_line(out, at, finding.name(), count)
+    number_line(text, finding.name(), count)
 }
 
 // A line for each number.
-fn refused_lines(out: &mut [u8], at: usize, counts: [usize; NUMBERS]) -> usize
-    requires { Room out.old at (each (refused_line counts) numbers) }
-    ensures { Written out.old at (each (refused_line counts) numbers) out.new result }
+fn refused_lines(text: &mut Text<'_>, counts: [usize; NUMBERS])
+    requires { Room text.old.out.now text.old.at (each (refused_line counts) numbers) }
+    ensures same_reference { text.new.out.ghost_name ≡ text.old.out.ghost_name }
+    ensures written { Written text.old.out.now text.old.at (each (refused_line counts) numbers) text.new.out.now text.new.at }
 {
-    let mut next = at;
     for (place, number) in EACH_NUMBER.iter().enumerate() {
-        next = refused_line(out, next, *number, counts[place]);
+        refused_line(text, *number, counts[place]);
     }
-    next
 }
 
 // A line for each finding.
-fn found_lines(out: &mut [u8], at: usize, counts: [usize; Finding::COUNT]) -> usize
-    requires { Room out.old at (each (found_line counts) all_in_order) }
-    ensures { Written out.old at (each (found_line counts) all_in_order) out.new result }
+fn found_lines(text: &mut Text<'_>, counts: [usize; Finding::COUNT])
+    requires { Room text.old.out.now text.old.at (each (found_line counts) all_in_order) }
+    ensures same_reference { text.new.out.ghost_name ≡ text.old.out.ghost_name }
+    ensures written { Written text.old.out.now text.old.at (each (found_line counts) all_in_order) text.new.out.now text.new.at }
 {
-    let mut next = at;
     for (place, finding) in Finding::IN_ORDER.iter().enumerate() {
-        next = found_line(out, next, *finding, counts[place]);
+        found_line(text, *finding, counts[place]);
     }
-    next
 }
 
 // The tables, the refusals and the findings.
-fn put_counts(out: &mut [u8], at: usize, figures: Figures) -> usize
-    requires { Room out.old at (counts_text figures) }
-    ensures { Written out.old at (counts_text figures) out.new result }
+fn put_counts(text: &mut Text<'_>, figures: Figures)
+    requires { Room text.old.out.now text.old.at (counts_text figures) }
+    ensures same_reference { text.new.out.ghost_name ≡ text.old.out.ghost_name }
+    ensures written { Written text.old.out.now text.old.at (counts_text figures) text.new.out.now text.new.at }
 {
-    let first = number_line(out, at, b"tables", figures.tables);
-    let second = refused_lines(out, first, figures.refused);
-    found_lines(out, second, figures.found)
+    number_line(text, b"tables", figures.tables);
+    refused_lines(text, figures.refused);
+    found_lines(text, figures.found)
 }
 
-fn put_verdicts(out: &mut [u8], at: usize, figures: Figures) -> usize
-    requires { Room out.old at (verdicts_text figures) }
-    ensures { Written out.old at (verdicts_text figures) out.new result }
+fn put_verdicts(text: &mut Text<'_>, figures: Figures)
+    requires { Room text.old.out.now text.old.at (verdicts_text figures) }
+    ensures same_reference { text.new.out.ghost_name ≡ text.old.out.ghost_name }
+    ensures written { Written text.old.out.now text.old.at (verdicts_text figures) text.new.out.now text.new.at }
 {
-    let first = number_line(out, at, b"consistent", figures.consistent);
-    let second = number_line(out, first, b"inconsistent", figures.inconsistent);
-    number_line(out, second, b"undefined", figures.undefined)
+    number_line(text, b"consistent", figures.consistent);
+    number_line(text, b"inconsistent", figures.inconsistent);
+    number_line(text, b"undefined", figures.undefined)
 }
 
-fn put_figures(out: &mut [u8], figures: Figures) -> usize
-    requires { Room out.old 0 (figures_text figures) }
-    ensures { Written out.old 0 (figures_text figures) out.new result }
+fn put_figures(text: &mut Text<'_>, figures: Figures)
+    requires { Room text.old.out.now text.old.at (figures_text figures) }
+    ensures same_reference { text.new.out.ghost_name ≡ text.old.out.ghost_name }
+    ensures written { Written text.old.out.now text.old.at (figures_text figures) text.new.out.now text.new.at }
 {
-    let first = put_counts(out, 0, figures);
-    let second = put_verdicts(out, first, figures);
-    number_line(out, second, b"largest", figures.largest)
+    put_counts(text, figures);
+    put_verdicts(text, figures);
+    number_line(text, b"largest", figures.largest)
 }
 
 // The figures of a batch that ended early, and its refusal; of one refused with 1 that alone.
-fn put_early(out: &mut [u8], figures: Figures, told: Told) -> usize
-    requires { Room out.old 0 (sheet_text figures (refused told)) }
-    ensures { Written out.old 0 (sheet_text figures (refused told)) out.new result }
+fn put_early(text: &mut Text<'_>, figures: Figures, told: Told)
+    requires { Room text.old.out.now text.old.at (sheet_text figures (refused told)) }
+    ensures same_reference { text.new.out.ghost_name ≡ text.old.out.ghost_name }
+    ensures written { Written text.old.out.now text.old.at (sheet_text figures (refused told)) text.new.out.now text.new.at }
 {
     if told.number == 1 {
-        return put_refused(out, 0, told);
+        return put_refused(text, told);
     }
-    let last = put_figures(out, figures);
-    put_refused(out, last, told)
+    put_figures(text, figures);
+    put_refused(text, told)
 }
 
-fn put_sheet(out: &mut [u8], figures: Figures, ending: Result<(), Refusal>) -> usize
-    requires { Room out.old 0 (sheet_text figures (end_of ending)) }
-    ensures { Written out.old 0 (sheet_text figures (end_of ending)) out.new result }
+fn put_sheet(text: &mut Text<'_>, figures: Figures, ending: Result<(), Refusal>)
+    requires { Room text.old.out.now text.old.at (sheet_text figures (end_of ending)) }
+    ensures same_reference { text.new.out.ghost_name ≡ text.old.out.ghost_name }
+    ensures written { Written text.old.out.now text.old.at (sheet_text figures (end_of ending)) text.new.out.now text.new.at }
 {
     match ending {
-        Ok(()) => put_figures(out, figures),
-        Err(why) => put_early(out, figures, why.told()),
+        Ok(()) => put_figures(text, figures),
+        Err(why) => put_early(text, figures, why.told()),
     }
 }
 
@@ -127,7 +133,9 @@ fn put_monday(batch: &[u8], out: &mut [u8]) -> usize
     ensures { Front (SheetOf batch.now) out.new result }
 {
     let monday = figures_of(batch);
-    put_sheet(out, monday.figures, monday.ending)
+    let mut text = Text { out, at: 0 };
+    put_sheet(&mut text, monday.figures, monday.ending);
+    text.at
 }
 
 // Writes Monday's figures over a batch as text.

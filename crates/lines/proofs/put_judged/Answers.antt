@@ -1,11 +1,10 @@
 -- `put_judged` meets its contract: each arm writes the text of what was judged.
-use mathlib.Core.Path.{sym, ap, subst}
+use mathlib.Core.Path.{sym, subst}
 use mathlib.Core.List.{List}
 use Prim.Native.Nat.{ℕ}
 use Rattle.std.proofs.Common.{Result, Ok}
 use Rattle.refusals.specs.declared.Refusal.{Refusal}
 use Rattle.judge.specs.declared.Report.{Report}
-use Rattle.text.proofs.Laws.{written_text}
 use Rattle.phrases.specs.Phrases.{refused_text}
 use Rattle.phrases.proofs.Pieces.{room_as}
 use Rattle.lines.specs.Witnesses.{AllWhole}
@@ -28,12 +27,3 @@ put_report-requires c = let a = c.args in (
   room_as (text a.first.now a.second.now) a.out.now 0 c.in-Ok.is c.requires.0,
   report_whole (subst (λ (j : Result Report Refusal). JudgedWhole j a.first.now a.second.now) c.in-Ok.is c.requires.1),
 )
-
-pub returns-in-Err : goal.returns-in-Err
-returns-in-Err c = let a = c.args in
-    written_text (ap (text a.first.now a.second.now) (sym c.in-Err.is))
-    (written_text (ap refused_text c.told.ensures) c.put_refused.ensures)
-
-pub returns-in-Ok : goal.returns-in-Ok
-returns-in-Ok c = let a = c.args in
-    written_text (ap (text a.first.now a.second.now) (sym c.in-Ok.is)) c.put_report.ensures

@@ -6,8 +6,5 @@ use Rattle.phrases.proofs.hand_over.Goals as goal
 pub returns-then-out-len : goal.returns-then-out-len
 returns-then-out-len c = too_short c.args.text.now c.args.out.now (omega (arith, c.if-out-len.true))
 
-pub put-requires : goal.put-requires
-put-requires c = omega (arith, c.if-out-len.false)
-
 pub returns : goal.returns
-returns c = handed c.args.text.now c.args.out.now (omega (arith, c.if-out-len.false)) c.put.ensures
+returns c = handed c.args.text.now c.args.out.now (omega (arith, c.if-out-len.false)) c.copy_from_slice.ensures.after

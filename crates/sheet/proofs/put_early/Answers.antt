@@ -9,22 +9,22 @@ use Rattle.sheet.proofs.Ending.{only_refused, both}
 use Rattle.sheet.proofs.put_early.Goals as goal
 
 pub put_refused-requires : goal.put_refused-requires
-put_refused-requires c = let a = c.args in
-    subst (Room a.out.now 0) (only_refused a.figures a.told c.if-told-eq1.true) c.requires
+put_refused-requires c = let a = c.args in let t = a.text.now in
+    subst (Room t.out.now t.at) (only_refused a.figures a.told c.if-told-eq1.true) c.requires
 
-pub returns-then-told-eq1 : goal.returns-then-told-eq1
-returns-then-told-eq1 c = let a = c.args in
-    written_text (sym (only_refused a.figures a.told c.if-told-eq1.true)) c.put_refused.ensures
+pub returns-then-told-eq1-clause-written : goal.returns-then-told-eq1-clause-written
+returns-then-told-eq1-clause-written c = let a = c.args in
+    written_text (sym (only_refused a.figures a.told c.if-told-eq1.true)) c.put_refused.ensures.written
 
-pub put_figures-last-requires : goal.put_figures-last-requires
-put_figures-last-requires c = let a = c.args in
-    room_front a.out.now 0 (figures_text a.figures) (refused_text a.told) (subst (Room a.out.now 0) (both a.figures a.told c.if-told-eq1.false) c.requires)
+pub put_figures-requires : goal.put_figures-requires
+put_figures-requires c = let a = c.args in let t = a.text.now in
+    room_front t.out.now t.at (figures_text a.figures) (refused_text a.told) (subst (Room t.out.now t.at) (both a.figures a.told c.if-told-eq1.false) c.requires)
 
 pub put_refused-requires-2 : goal.put_refused-requires-2
-put_refused-requires-2 c = let a = c.args in
-    room_back (refused_text a.told) (subst (Room a.out.now 0) (both a.figures a.told c.if-told-eq1.false) c.requires) c.put_figures-last.ensures
+put_refused-requires-2 c = let a = c.args in let t = a.text.now in
+    room_back (refused_text a.told) (subst (Room t.out.now t.at) (both a.figures a.told c.if-told-eq1.false) c.requires) c.put_figures.ensures.written
 
-pub returns : goal.returns
-returns c = let a = c.args in
+pub returns-clause-written : goal.returns-clause-written
+returns-clause-written c = let a = c.args in let t = a.text.now in
     let same = both a.figures a.told c.if-told-eq1.false in
-    written_text (sym same) (written_then (subst (Room a.out.now 0) same c.requires) c.put_figures-last.ensures c.put_refused-2.ensures)
+    written_text (sym same) (written_then (subst (Room t.out.now t.at) same c.requires) c.put_figures.ensures.written c.put_refused-2.ensures.written)

@@ -1,5 +1,5 @@
 -- `refused_lines` meets its contract: the line of each number has room, and stands after those passed.
-use mathlib.Core.Path.{◌≡◌, refl, ap}
+use mathlib.Core.Path.{◌≡◌, refl, ap, ◌∙◌}
 use mathlib.Core.List.{List, ◌++◌}
 use Prim.Native.Nat.{ℕ, ◌-◌, ◌<◌}
 use native.Mathlib.Omega.{arith}
@@ -19,15 +19,18 @@ line_is counts place h = ap (λ (k : ℕ). line refused_word (spaced (get_or num
     back : place ≡ get_or numbers place 0 - 1
     back = omega (arith, number_at place h)
 
-pub refused_line-next-requires : goal.refused_line-next-requires
-refused_line-next-requires c = let counts = c.args.counts in
+pub refused_line-requires : goal.refused_line-requires
+refused_line-requires c = let counts = c.args.counts in
     omega (
       arith,
       ap length (line_is counts c.loop-place.place c.loop-place-test.true),
-      each_room (refused_line counts) _ _ _ _ _ _ 0 _ c.loop-place-test.true c.requires c.loop-place.invariant refl,
+      each_room (refused_line counts) _ _ _ _ _ _ 0 _ c.loop-place-test.true c.requires c.loop-place.invariant.written refl,
     )
 
 pub loop-place-preserved : goal.loop-place-preserved
-loop-place-preserved c = let counts = c.args.counts in
-    each_more (refused_line counts) _ _ _ _ _ _ 0 _ c.loop-place-test.true c.requires c.loop-place.invariant refl
-    (written_text (line_is counts c.loop-place.place c.loop-place-test.true) c.refused_line-next.ensures)
+loop-place-preserved c = let counts = c.args.counts in record {
+  same_reference = c.refused_line.ensures.same_reference ∙ c.loop-place.invariant.same_reference;
+  written =
+      each_more (refused_line counts) _ _ _ _ _ _ 0 _ c.loop-place-test.true c.requires c.loop-place.invariant.written refl
+      (written_text (line_is counts c.loop-place.place c.loop-place-test.true) c.refused_line.ensures.written);
+}
