@@ -95,3 +95,13 @@ pub record Columns (t : Table) (n : ℕ) (parent arm source sync place kind orde
   pub places : Column n (place_number t) place
   pub kinds : Column n (kind_number t) kind
   pub orders : Column n (order_number t) order
+
+-- and past the first n entries they are 0
+pub record Rest (n : ℕ) (parent arm source sync place kind order : List ℕ) : Type 0 where
+  pub of_parent : (k : ℕ) → n ≤ k → get_or parent k 0 ≡ 0
+  pub of_arm : (k : ℕ) → n ≤ k → get_or arm k 0 ≡ 0
+  pub of_source : (k : ℕ) → n ≤ k → get_or source k 0 ≡ 0
+  pub of_sync : (k : ℕ) → n ≤ k → get_or sync k 0 ≡ 0
+  pub of_place : (k : ℕ) → n ≤ k → get_or place k 0 ≡ 0
+  pub of_kind : (k : ℕ) → n ≤ k → get_or kind k 0 ≡ 0
+  pub of_order : (k : ℕ) → n ≤ k → get_or order k 0 ≡ 0

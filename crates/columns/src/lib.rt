@@ -5,7 +5,7 @@ ghost use Rattle.std.specs.Prelude.{◌≡◌, ◌<◌};
 ghost use Rattle.record.specs.Form.{order_byte, part};
 ghost use Rattle.table.specs.Events.{events_of};
 ghost use Rattle.facts.specs.Sound.{Counted};
-ghost use Rattle.columns.specs.Columns.{Columns};
+ghost use Rattle.columns.specs.Columns.{Columns, Rest};
 ghost use Rattle.columns.specs.Codes.{place_from, arm_from, acquires_code, sync_from};
 
 use facts::byte;
@@ -51,7 +51,7 @@ fn sync_of(table: &[u8], n: usize, b: usize, source: u8, order: u8) -> u8
     NONE
 }
 
-// What the relations ask of the records: a byte for each. Past the records that there are, nothing is said.
+// What the relations ask of the records: a byte for each, and 0 past the records that there are.
 #[derive(Drop)]
 pub struct Fields {
     pub parent: [u8; LIMIT],
@@ -66,7 +66,8 @@ pub struct Fields {
 // All columns of a sound table, record by record.
 pub fn read(table: &[u8], n: usize) -> Fields
     requires { Counted table.now n }
-    ensures { Columns (events_of table.now) n result.parent result.arm result.source result.sync result.place result.kind result.order }
+    ensures columns { Columns (events_of table.now) n result.parent result.arm result.source result.sync result.place result.kind result.order }
+    ensures rest { Rest n result.parent result.arm result.source result.sync result.place result.kind result.order }
 {
     let mut parent = [0u8; LIMIT];
     let mut arm = [0u8; LIMIT];

@@ -1,12 +1,12 @@
 -- `read` meets its contract: of the first b records the columns say what the bytes do.
-use mathlib.Core.Path.{◌≡◌, refl, ap₂, ◌∙◌}
+use mathlib.Core.Path.{◌≡◌, ap₂, ◌∙◌}
 use Prim.Native.Nat.{ℕ}
 use native.Mathlib.Omega.{arith}
 use Rattle.record.specs.Form.{order_byte, part}
 use Rattle.facts.proofs.Records.{few, one_of}
 use Rattle.columns.specs.Codes.{place_from, arm_from, sync_from}
 use Rattle.columns.proofs.BytesTell.{parent_byte_lem, arm_bytes, source_byte_lem, sync_bytes, place_byte, kind_byte_lem, order_byte_lem, known}
-use Rattle.columns.proofs.Filling.{filled_none, filled_more, filled_column}
+use Rattle.columns.proofs.Filling.{filled_none, filled_more, filled_column, filled_rest}
 use Rattle.columns.proofs.read.Goals as goal
 
 pub loop-b-preserved : goal.loop-b-preserved
@@ -38,23 +38,34 @@ returns c = let counted = c.requires in
     let end : c.loop-b.b ≡ c.args.n = omega (arith, c.loop-b-test.false) in
     let f = c.loop-b.invariant in
     record {
-      known = known counted;
-      parents = filled_column end inside f.parents;
-      arms = filled_column end inside f.arms;
-      sources = filled_column end inside f.sources;
-      syncs = filled_column end inside f.syncs;
-      places = filled_column end inside f.places;
-      kinds = filled_column end inside f.kinds;
-      orders = filled_column end inside f.orders;
+      columns = record {
+        known = known counted;
+        parents = filled_column end inside f.parents;
+        arms = filled_column end inside f.arms;
+        sources = filled_column end inside f.sources;
+        syncs = filled_column end inside f.syncs;
+        places = filled_column end inside f.places;
+        kinds = filled_column end inside f.kinds;
+        orders = filled_column end inside f.orders;
+      };
+      rest = record {
+        of_parent = filled_rest end f.parents;
+        of_arm = filled_rest end f.arms;
+        of_source = filled_rest end f.sources;
+        of_sync = filled_rest end f.syncs;
+        of_place = filled_rest end f.places;
+        of_kind = filled_rest end f.kinds;
+        of_order = filled_rest end f.orders;
+      };
     }
 
 pub loop-b-init : goal.loop-b-init
 loop-b-init c = record {
-  parents = filled_none refl;
-  arms = filled_none refl;
-  sources = filled_none refl;
-  syncs = filled_none refl;
-  places = filled_none refl;
-  kinds = filled_none refl;
-  orders = filled_none refl;
+  parents = filled_none;
+  arms = filled_none;
+  sources = filled_none;
+  syncs = filled_none;
+  places = filled_none;
+  kinds = filled_none;
+  orders = filled_none;
 }

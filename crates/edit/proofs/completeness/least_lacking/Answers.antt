@@ -3,5 +3,5 @@ use Rattle.edit.proofs.Lending.{laying, judging}
 use Rattle.edit.proofs.completeness.least_lacking.Goals as goal
 
 pub returns : goal.returns
-returns c = let columns = c.read-of.ensures in
+returns c = let columns = c.read-of.ensures.columns in
     c.least_lacking_by.ensures _ (judging columns (c.lay.ensures _ (laying columns)))

@@ -3,5 +3,5 @@ use Rattle.judge.proofs.Grounds.{laying, based}
 use Rattle.judge.proofs.searching.find_within.Goals as goal
 
 pub returns : goal.returns
-returns g c = let columns = c.read-of.ensures in
+returns g c = let columns = c.read-of.ensures.columns in
     c.find_each.ensures _ (based columns (c.lay.ensures _ (laying columns)))
