@@ -7,7 +7,7 @@ ghost use Rattle.rows.specs.Rows.{Made};
 ghost use Rattle.columns.specs.Columns.{parent_number, arm_number, Column, Known};
 ghost use Rattle.basis.specs.Laid.{BranchRoom, LayRoom, Laying, Laid};
 
-use columns::Fields;
+use columns::View;
 use combined::race::races;
 use rows::whole::{clear, each_itself};
 use spread::apart::apart;
@@ -37,7 +37,7 @@ fn lay_conflict<const W: usize>(
 
 // `own`, `below`, `arms` and `na` are room to work in.
 pub fn lay<const W: usize>(
-    of: &Fields,
+    of: View<'_>,
     own: &mut [[u64; W]],
     below: &mut [[u64; W]],
     arms: &mut [[u64; W]],
@@ -48,10 +48,10 @@ pub fn lay<const W: usize>(
     race: &mut [[u64; W]],
     n: usize,
 )
-    requires { BranchRoom W n of.now.parent of.now.arm own.old below.old arms.old cf.old × LayRoom W n of.now.sync of.now.place of.now.kind of.now.order na.old hb.old at.old race.old }
-    ensures { (t : Table) → Laying t n of.now.parent of.now.arm of.now.sync of.now.place of.now.kind of.now.order → Laid t W n of.now.place of.now.kind hb.old cf.old at.old race.old hb.new cf.new at.new race.new }
+    requires { BranchRoom W n of.parent.now of.arm.now own.old below.old arms.old cf.old × LayRoom W n of.sync.now of.place.now of.kind.now of.order.now na.old hb.old at.old race.old }
+    ensures { (t : Table) → Laying t n of.entry.parent.now of.entry.arm.now of.entry.sync.now of.entry.place.now of.entry.kind.now of.entry.order.now → Laid t W n of.entry.place.now of.entry.kind.now hb.old cf.old at.old race.old hb.new cf.new at.new race.new }
 {
-    before(&of.parent, &of.sync, hb, n);
-    lay_conflict(&of.parent, &of.arm, own, below, arms, cf, n);
-    races(&of.place, &of.kind, &of.order, hb, cf, at, na, race, n);
+    before(of.parent, of.sync, hb, n);
+    lay_conflict(of.parent, of.arm, own, below, arms, cf, n);
+    races(of.place, of.kind, of.order, hb, cf, at, na, race, n);
 }

@@ -8,3 +8,4 @@ pub mod Races
 pub mod Writes
 pub mod Sequential
 pub mod Shown
+pub mod Lending

@@ -2,3 +2,4 @@
 pub mod Columns
 pub mod Codes
 pub mod Sequential
+pub mod Lent

@@ -6,6 +6,7 @@ ghost use Rattle.record.specs.Form.{order_byte, part};
 ghost use Rattle.table.specs.Events.{events_of};
 ghost use Rattle.facts.specs.Sound.{Counted};
 ghost use Rattle.columns.specs.Columns.{Columns, Rest};
+ghost use Rattle.columns.specs.Lent.{Lent};
 ghost use Rattle.columns.specs.Codes.{place_from, arm_from, acquires_code, sync_from};
 
 use facts::byte;
@@ -61,6 +62,35 @@ pub struct Fields {
     pub place: [u8; LIMIT],
     pub kind: [u8; LIMIT],
     pub order: [u8; LIMIT],
+}
+
+// The columns, lent: a byte for each record, at least.
+#[derive(Clone, Copy)]
+pub struct View<'a> {
+    pub parent: &'a [u8],
+    pub arm: &'a [u8],
+    pub source: &'a [u8],
+    pub sync: &'a [u8],
+    pub place: &'a [u8],
+    pub kind: &'a [u8],
+    pub order: &'a [u8],
+}
+
+impl Fields {
+    // All columns, lent.
+    pub fn view(&self) -> View<'_>
+        ensures { Lent self.now result }
+    {
+        View {
+            parent: &self.parent,
+            arm: &self.arm,
+            source: &self.source,
+            sync: &self.sync,
+            place: &self.place,
+            kind: &self.kind,
+            order: &self.order,
+        }
+    }
 }
 
 // All columns of a sound table, record by record.

@@ -15,7 +15,7 @@ ghost use Rattle.edit.specs.Columns.{JudgingRoom, Judging};
 ghost use Rattle.edit.specs.Cut.{RaceKept, Lacking};
 
 use basis::lay;
-use columns::Fields;
+use columns::View;
 use limits::LIMIT;
 use rows::row::row;
 use seeking::reads::stands_on_race;
@@ -45,7 +45,7 @@ fn any_kept<const W: usize>(selection: &[u8], race: &[[u64; W]], n: usize, b: us
 
 // Where b stands on a race, "one of those racing writes" is kept.
 fn race_kept<const W: usize>(
-    of: &Fields,
+    of: View<'_>,
     at: &[[u64; W]],
     hb: &[[u64; W]],
     race: &[[u64; W]],
@@ -53,15 +53,15 @@ fn race_kept<const W: usize>(
     n: usize,
     b: usize,
 ) -> bool
-    requires { (b < n) × (n ≤ 8 * length selection.now) × (n ≤ length of.now.kind) × ReadRoom W n of.now.source of.now.place at.now hb.now race.now }
-    ensures { (t : Table) → Reading t W n of.now.kind of.now.source of.now.place at.now hb.now race.now → Says result (StandsOnRace t b → RaceKept (named selection.now) t b) }
+    requires { (b < n) × (n ≤ 8 * length selection.now) × (n ≤ length of.kind.now) × ReadRoom W n of.source.now of.place.now at.now hb.now race.now }
+    ensures { (t : Table) → Reading t W n of.entry.kind.now of.entry.source.now of.entry.place.now at.now hb.now race.now → Says result (StandsOnRace t b → RaceKept (named selection.now) t b) }
 {
     !stands_on_race(of, at, hb, race, n, b) | any_kept(selection, race, n, b)
 }
 
 // A kept record that "lacks its parent, its source, or its racing write".
 fn lacks<const W: usize>(
-    of: &Fields,
+    of: View<'_>,
     at: &[[u64; W]],
     hb: &[[u64; W]],
     race: &[[u64; W]],
@@ -69,26 +69,26 @@ fn lacks<const W: usize>(
     n: usize,
     b: usize,
 ) -> bool
-    requires { (b < n) × JudgingRoom W n of.now.parent of.now.kind of.now.source of.now.place at.now hb.now race.now selection.now }
-    ensures { (t : Table) → Judging t W n of.now.parent of.now.kind of.now.source of.now.place at.now hb.now race.now → Says result (Lacking (named selection.now) t b) }
+    requires { (b < n) × JudgingRoom W n of.parent.now of.kind.now of.source.now of.place.now at.now hb.now race.now selection.now }
+    ensures { (t : Table) → Judging t W n of.entry.parent.now of.entry.kind.now of.entry.source.now of.entry.place.now at.now hb.now race.now → Says result (Lacking (named selection.now) t b) }
 {
-    let complete = link_kept(selection, &of.parent, n, b)
-        & link_kept(selection, &of.source, n, b)
+    let complete = link_kept(selection, of.parent, n, b)
+        & link_kept(selection, of.source, n, b)
         & race_kept(of, at, hb, race, selection, n, b);
     names(selection, b) & !complete
 }
 
 // The least, by the rows of hb and of races.
 fn least_lacking_by<const W: usize>(
-    of: &Fields,
+    of: View<'_>,
     at: &[[u64; W]],
     hb: &[[u64; W]],
     race: &[[u64; W]],
     selection: &[u8],
     n: usize,
 ) -> Option<usize>
-    requires { JudgingRoom W n of.now.parent of.now.kind of.now.source of.now.place at.now hb.now race.now selection.now }
-    ensures { (t : Table) → Judging t W n of.now.parent of.now.kind of.now.source of.now.place at.now hb.now race.now → LeastNumber (Lacking (named selection.now) t) result }
+    requires { JudgingRoom W n of.parent.now of.kind.now of.source.now of.place.now at.now hb.now race.now selection.now }
+    ensures { (t : Table) → Judging t W n of.entry.parent.now of.entry.kind.now of.entry.source.now of.entry.place.now at.now hb.now race.now → LeastNumber (Lacking (named selection.now) t) result }
 {
     for b in 0..n {
         if lacks(of, at, hb, race, selection, n, b) {
@@ -103,7 +103,6 @@ pub fn least_lacking(table: &[u8], selection: &[u8], count: usize) -> Option<usi
     requires { Counted table.now count × (count ≤ 8 * length selection.now) }
     ensures { LeastNumber (Lacking (named selection.now) (events_of table.now)) result }
 {
-    let of = columns::read(table, count);
     let mut own = [[0u64; 4]; LIMIT];
     let mut below = [[0u64; 4]; LIMIT];
     let mut arms = [[0u64; 4]; LIMIT];
@@ -112,8 +111,10 @@ pub fn least_lacking(table: &[u8], selection: &[u8], count: usize) -> Option<usi
     let mut cf = [[0u64; 4]; LIMIT];
     let mut at = [[0u64; 4]; 33];
     let mut race = [[0u64; 4]; LIMIT];
+    let fields = columns::read(table, count);
+    let of = fields.view();
     lay(
-        &of, &mut own, &mut below, &mut arms, &mut na, &mut hb, &mut cf, &mut at, &mut race, count,
+        of, &mut own, &mut below, &mut arms, &mut na, &mut hb, &mut cf, &mut at, &mut race, count,
     );
-    least_lacking_by(&of, &at, &hb, &race, selection, count)
+    least_lacking_by(of, &at, &hb, &race, selection, count)
 }

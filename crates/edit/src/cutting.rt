@@ -72,6 +72,8 @@ pub fn cut(table: &[u8], selection: &[u8], out: &mut [u8]) -> Result<usize, Refu
     ensures { CutAnswer table.now selection.now out.old out.new result }
 {
     let mut numbers = [0u8; LIMIT];
-    let count = table::test(table)?;
-    cut_sound(table, count, selection, &mut numbers, out)
+    match table::test(table) {
+        Err(why) => Err(why),
+        Ok(count) => cut_sound(table, count, selection, &mut numbers, out),
+    }
 }

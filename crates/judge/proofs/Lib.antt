@@ -3,3 +3,4 @@ pub mod Grounds
 pub mod Reporting
 pub mod Answering
 pub mod Unique
+pub mod Widths

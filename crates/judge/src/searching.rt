@@ -13,7 +13,7 @@ ghost use Rattle.judge.specs.Rooms.{Rooms, Outs, Based, Conflicting, FoundInConf
 ghost use Rattle.judge.specs.Parts.{FoundAll};
 
 use basis::lay;
-use columns::{Fields, read};
+use columns::{View, read};
 use cycle::goes_back;
 use findings::{Findings, Found};
 use limits::{LIMIT, MIDDLE, SMALL};
@@ -44,7 +44,7 @@ struct Cycles {
 
 // A2 and A3. Where no records conflict there is nothing to be found. `below`, `arms`, `conflicting` and `shows` are room to work in.
 fn find_in_conflict<const W: usize>(
-    of: &Fields,
+    of: View<'_>,
     readers: &[[u64; W]],
     hb: &[[u64; W]],
     cf: &[[u64; W]],
@@ -54,8 +54,8 @@ fn find_in_conflict<const W: usize>(
     shows: &mut [[u64; W]],
     n: usize,
 ) -> InConflict
-    requires { SourceRoom W n of.now.parent of.now.arm of.now.source readers.now hb.now below.old arms.old conflicting.old shows.old × Room W n n cf.now }
-    ensures { (t : Table) → Conflicting t W n of.now.parent of.now.arm of.now.source readers.now hb.now cf.now → FoundInConflict t result }
+    requires { SourceRoom W n of.parent.now of.arm.now of.source.now readers.now hb.now below.old arms.old conflicting.old shows.old × Room W n n cf.now }
+    ensures { (t : Table) → Conflicting t W n of.entry.parent.now of.entry.arm.now of.entry.source.now readers.now hb.now cf.now → FoundInConflict t result }
 {
     if relates_any(cf, n) {
         let a2 = find_before_in_conflict(hb, cf, shows, n);
@@ -71,7 +71,7 @@ fn find_in_conflict<const W: usize>(
 
 // A1 and A4: wb0, its least cycle, and that of the steps among SC records. What is lent from `owners` to `detour` is room to work in.
 fn find_cycles<const W: usize>(
-    of: &Fields,
+    of: View<'_>,
     hb: &[[u64; W]],
     writes: &[[u64; W]],
     readers: &[[u64; W]],
@@ -88,8 +88,8 @@ fn find_cycles<const W: usize>(
     second: &mut [u8],
     n: usize,
 ) -> Cycles
-    requires { HandingRoom W n of.now.parent of.now.sync of.now.kind of.now.source of.now.place writes.now owners.old wb0.old × ScRoom W n of.now.parent of.now.sync of.now.place of.now.order hb.now writes.now readers.now wb0.old wb.old over.old at.old po.old other.old around.old detour.old second.old × OutRoom n first.old × ((t : Table) × Rounding t W n of.now.parent of.now.sync of.now.kind of.now.source of.now.place of.now.order hb.now writes.now readers.now) }
-    ensures { (t : Table) → Rounding t W n of.now.parent of.now.sync of.now.kind of.now.source of.now.place of.now.order hb.now writes.now readers.now → FoundCycles t first.old first.new second.old second.new result }
+    requires { HandingRoom W n of.parent.now of.sync.now of.kind.now of.source.now of.place.now writes.now owners.old wb0.old × ScRoom W n of.parent.now of.sync.now of.place.now of.order.now hb.now writes.now readers.now wb0.old wb.old over.old at.old po.old other.old around.old detour.old second.old × OutRoom n first.old × ((t : Table) × Rounding t W n of.parent.now of.sync.now of.kind.now of.source.now of.place.now of.order.now hb.now writes.now readers.now) }
+    ensures { (t : Table) → Rounding t W n of.entry.parent.now of.entry.sync.now of.entry.kind.now of.entry.source.now of.entry.place.now of.entry.order.now hb.now writes.now readers.now → FoundCycles t first.old first.new second.old second.new result }
 {
     lay_writes(of, writes, owners, wb0, n);
     let back = goes_back(wb0, n);
@@ -103,7 +103,7 @@ fn find_cycles<const W: usize>(
 
 // Each finding, from the columns and from what was laid. A room is lent again where what stands in it is no longer asked for.
 fn find_each<const W: usize>(
-    of: &Fields,
+    of: View<'_>,
     hb: &[[u64; W]],
     writes: &[[u64; W]],
     cf: &mut [[u64; W]],
@@ -120,13 +120,13 @@ fn find_each<const W: usize>(
     second: &mut [u8],
     n: usize,
 ) -> Findings
-    requires { Rooms W n own.old hb.now cf.old below.old arms.old race.old readers.old shows.old owners.old wb0.old writes.now at.old × Outs n first.old second.old × ((t : Table) × Based t W n of.now.parent of.now.arm of.now.source of.now.sync of.now.place of.now.kind of.now.order hb.now cf.old writes.now race.old) }
-    ensures { (t : Table) → Based t W n of.now.parent of.now.arm of.now.source of.now.sync of.now.place of.now.kind of.now.order hb.now cf.old writes.now race.old → FoundAll t first.old first.new second.old second.new result }
+    requires { Rooms W n own.old hb.now cf.old below.old arms.old race.old readers.old shows.old owners.old wb0.old writes.now at.old × Outs n first.old second.old × ((t : Table) × Based t W n of.parent.now of.arm.now of.source.now of.sync.now of.place.now of.kind.now of.order.now hb.now cf.old writes.now race.old) }
+    ensures { (t : Table) → Based t W n of.entry.parent.now of.entry.arm.now of.entry.source.now of.entry.sync.now of.entry.place.now of.entry.kind.now of.entry.order.now hb.now cf.old writes.now race.old → FoundAll t first.old first.new second.old second.new result }
 {
     let r = find_read(of, writes, hb, race, n);
-    let w = find_racing_writes(&of.kind, race, shows, n);
+    let w = find_racing_writes(of.kind, race, shows, n);
     let a5 = find_token_taken_twice(of, cf, readers, shows, n);
-    sorted(&of.source, readers, n, n);
+    sorted(of.source, readers, n, n);
     let pairs = find_in_conflict(of, readers, hb, cf, below, arms, own, shows, n);
     let cycles = find_cycles(
         of, hb, writes, readers, owners, wb0, below, arms, at, own, race, shows, cf, first, second,
@@ -157,7 +157,6 @@ fn find_within<const W: usize, const N: usize>(
     requires small { N * (W * 8) < 2 ^ 63 }
     ensures { FoundAll (events_of table.now) first.old first.new second.old second.new result }
 {
-    let of = read(table, n);
     let mut own = [[0u64; W]; N];
     let mut hb = [[0u64; W]; N];
     let mut cf = [[0u64; W]; N];
@@ -171,8 +170,10 @@ fn find_within<const W: usize, const N: usize>(
     let mut writes = [[0u64; W]; PLACES];
     let mut at = [[0u64; W]; PLACES];
     let mut na = [[0u64; W]; 1];
+    let fields = read(table, n);
+    let of = fields.view();
     lay(
-        &of,
+        of,
         &mut own,
         &mut below,
         &mut arms,
@@ -184,7 +185,7 @@ fn find_within<const W: usize, const N: usize>(
         n,
     );
     find_each(
-        &of,
+        of,
         &hb,
         &writes,
         &mut cf,

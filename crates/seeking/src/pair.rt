@@ -11,7 +11,7 @@ ghost use Rattle.pairs.specs.Tokens.{TakerRoom};
 ghost use Rattle.columns.specs.Columns.{parent_number, arm_number, source_number, kind_number, Column, Known};
 ghost use Rattle.seeking.specs.Pairs.{SourceRoom};
 
-use columns::Fields;
+use columns::View;
 use findings::Found;
 use pairs::asked::{meet, meet_led, of_codes, tokens};
 use pairs::least::least_pair;
@@ -52,26 +52,26 @@ pub fn find_racing_writes<const W: usize>(
 
 // A5: "two different updates, not in conflict, have the same source". `takers` is room to work in.
 pub fn find_token_taken_twice<const W: usize>(
-    of: &Fields,
+    of: View<'_>,
     cf: &[[u64; W]],
     takers: &mut [[u64; W]],
     shows: &mut [[u64; W]],
     n: usize,
 ) -> Found
-    requires { TakerRoom W n of.now.kind of.now.source takers.old × Room W n n cf.now × Room W n n shows.old }
-    ensures { (t : Table) → Known t n → Column n (kind_number t) of.now.kind → Column n (source_number t) of.now.source → Holds W n (Conflict t) cf.now → Finds (Shows t A5) result }
+    requires { TakerRoom W n of.kind.now of.source.now takers.old × Room W n n cf.now × Room W n n shows.old }
+    ensures { (t : Table) → Known t n → Column n (kind_number t) of.entry.kind.now → Column n (source_number t) of.entry.source.now → Holds W n (Conflict t) cf.now → Finds (Shows t A5) result }
 {
-    if !taken_twice(&of.kind, &of.source, n) {
+    if !taken_twice(of.kind, of.source, n) {
         return Found::Nothing;
     }
-    tokens(&of.kind, &of.source, cf, takers, shows, n);
+    tokens(of.kind, of.source, cf, takers, shows, n);
     least_pair(shows, n)
 }
 
 // A3: "r' hb r, both have sources, and the two sources conflict". `below`, `arms` and `conflicting` are room to work in; the last then has, of each
 // record, the readers of what conflicts with it.
 pub fn find_sources_in_conflict<const W: usize>(
-    of: &Fields,
+    of: View<'_>,
     readers: &[[u64; W]],
     hb: &[[u64; W]],
     below: &mut [[u64; W]],
@@ -80,10 +80,10 @@ pub fn find_sources_in_conflict<const W: usize>(
     shows: &mut [[u64; W]],
     n: usize,
 ) -> Found
-    requires { SourceRoom W n of.now.parent of.now.arm of.now.source readers.now hb.now below.old arms.old conflicting.old shows.old }
-    ensures { (t : Table) → Known t n → Column n (parent_number t) of.now.parent → Column n (arm_number t) of.now.arm → Column n (source_number t) of.now.source → Holds W n (λ a s. Source t s a) readers.now → Holds W n (Hb t) hb.now → Finds (Shows t A3) result }
+    requires { SourceRoom W n of.parent.now of.arm.now of.source.now readers.now hb.now below.old arms.old conflicting.old shows.old }
+    ensures { (t : Table) → Known t n → Column n (parent_number t) of.entry.parent.now → Column n (arm_number t) of.entry.arm.now → Column n (source_number t) of.entry.source.now → Holds W n (λ a s. Source t s a) readers.now → Holds W n (Hb t) hb.now → Finds (Shows t A3) result }
 {
-    apart(&of.parent, &of.arm, readers, below, arms, conflicting, n);
-    meet_led(&of.source, hb, conflicting, shows, n);
+    apart(of.parent, of.arm, readers, below, arms, conflicting, n);
+    meet_led(of.source, hb, conflicting, shows, n);
     least_pair(shows, n)
 }

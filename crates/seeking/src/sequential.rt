@@ -13,7 +13,7 @@ ghost use Rattle.seeking.specs.Sequential.{ClosingRoom, Closed, TurningRoom, ScR
 
 use closure::by_stages::{close, gather};
 use closure::rising::rise;
-use columns::Fields;
+use columns::View;
 use combined::sequential::{among, detours, elsewhere};
 use cycle::{goes_back, least_cycle};
 use findings::Found;
@@ -49,7 +49,7 @@ fn close_writes<const W: usize>(
 
 // Who stands at each place, and the detours: "po≠; or po≠, then hb, then po≠". `po`, `other` and `around` are room to work in.
 fn turn_around<const W: usize>(
-    of: &Fields,
+    of: View<'_>,
     at: &mut [[u64; W]],
     po: &mut [[u64; W]],
     other: &mut [[u64; W]],
@@ -57,20 +57,20 @@ fn turn_around<const W: usize>(
     detour: &mut [[u64; W]],
     n: usize,
 )
-    requires { TurningRoom W n of.now.parent of.now.sync of.now.place at.old po.old other.old around.old detour.old }
-    ensures { (t : Table) → Known t n → Column n (parent_number t) of.now.parent → Column n (sync_number t) of.now.sync → Column n (place_number t) of.now.place → Made W 33 (StandsAt n of.now.place) at.old at.new × Made W n (Detour t) detour.old detour.new }
+    requires { TurningRoom W n of.parent.now of.sync.now of.place.now at.old po.old other.old around.old detour.old }
+    ensures { (t : Table) → Known t n → Column n (parent_number t) of.entry.parent.now → Column n (sync_number t) of.entry.sync.now → Column n (place_number t) of.entry.place.now → Made W 33 (StandsAt n of.entry.place.now) at.old at.new × Made W n (Detour t) detour.old detour.new }
 {
-    sorted(&of.place, at, n, 32);
+    sorted(of.place, at, n, 32);
     put(at, 32, Set::nothing());
-    along(&of.parent, po, n);
-    elsewhere(&of.place, po, at, other, n);
-    onward(&of.parent, &of.sync, other, around, n);
-    detours(&of.parent, &of.place, other, around, detour, n);
+    along(of.parent, po, n);
+    elsewhere(of.place, po, at, other, n);
+    onward(of.parent, of.sync, other, around, n);
+    detours(of.parent, of.place, other, around, detour, n);
 }
 
 // A4: the least cycle, at the front of `out`. What is lent from `wb` to `detour` is room to work in.
 pub fn find_sc_cycle<const W: usize>(
-    of: &Fields,
+    of: View<'_>,
     hb: &[[u64; W]],
     writes: &[[u64; W]],
     readers: &[[u64; W]],
@@ -86,21 +86,17 @@ pub fn find_sc_cycle<const W: usize>(
     out: &mut [u8],
     n: usize,
 ) -> Found
-    requires { ScRoom W n of.now.parent of.now.sync of.now.place of.now.order hb.now writes.now readers.now wb0.now wb.old over.old at.old po.old other.old around.old detour.old out.old × Says back (GoesBack W n wb0.now) × ((t : Table) × Sequenced t W n of.now.parent of.now.sync of.now.place of.now.order hb.now writes.now readers.now wb0.now) }
-    ensures { (t : Table) → Sequenced t W n of.now.parent of.now.sync of.now.place of.now.order hb.now writes.now readers.now wb0.now → FindsIn (Shows t A4) out.old out.new result }
+    requires { ScRoom W n of.parent.now of.sync.now of.place.now of.order.now hb.now writes.now readers.now wb0.now wb.old over.old at.old po.old other.old around.old detour.old out.old × Says back (GoesBack W n wb0.now) × ((t : Table) × Sequenced t W n of.parent.now of.sync.now of.place.now of.order.now hb.now writes.now readers.now wb0.now) }
+    ensures { (t : Table) → Sequenced t W n of.entry.parent.now of.entry.sync.now of.entry.place.now of.entry.order.now hb.now writes.now readers.now wb0.now → FindsIn (Shows t A4) out.old out.new result }
 {
     let mut orders = [[0u64; W]; 5];
-    sorted(&of.order, &mut orders, n, 5);
+    sorted(of.order, &mut orders, n, 5);
     if row(&orders, 4).is_empty() {
         return Found::Nothing;
     }
-    close_writes(
-        &of.place, &of.order, writes, readers, wb0, back, wb, over, n,
-    );
+    close_writes(of.place, of.order, writes, readers, wb0, back, wb, over, n);
     turn_around(of, at, po, other, around, detour, n);
-    among(
-        &of.order, &of.place, &orders, at, hb, detour, wb, over, po, n,
-    );
+    among(of.order, of.place, &orders, at, hb, detour, wb, over, po, n);
     let back_again = goes_back(po, n);
     least_cycle(po, back_again, n, around, out)
 }

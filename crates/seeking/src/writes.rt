@@ -11,24 +11,24 @@ ghost use Rattle.cycle.specs.Rounds.{GoesBack, Lends};
 ghost use Rattle.columns.specs.Columns.{Known};
 ghost use Rattle.seeking.specs.Writes.{Writing};
 
-use columns::Fields;
+use columns::View;
 use combined::writes::handed_on;
 use cycle::least_cycle;
 use findings::Found;
 
 // wb0. `owners` is room to work in.
 pub fn lay_writes<const W: usize>(
-    of: &Fields,
+    of: View<'_>,
     at: &[[u64; W]],
     owners: &mut [[u64; W]],
     steps: &mut [[u64; W]],
     n: usize,
 )
-    requires { HandingRoom W n of.now.parent of.now.sync of.now.kind of.now.source of.now.place at.now owners.old steps.old }
-    ensures { (t : Table) → Writing t W n of.now.parent of.now.sync of.now.kind of.now.source of.now.place at.now → Made W n (Wb0 t) steps.old steps.new }
+    requires { HandingRoom W n of.parent.now of.sync.now of.kind.now of.source.now of.place.now at.now owners.old steps.old }
+    ensures { (t : Table) → Writing t W n of.entry.parent.now of.entry.sync.now of.entry.kind.now of.entry.source.now of.entry.place.now at.now → Made W n (Wb0 t) steps.old steps.new }
 {
     handed_on(
-        &of.parent, &of.sync, &of.kind, &of.source, &of.place, at, owners, steps, n,
+        of.parent, of.sync, of.kind, of.source, of.place, at, owners, steps, n,
     );
 }
 

@@ -7,4 +7,4 @@ use Rattle.edit.specs.Cut.{Lacking}
 use Rattle.edit.proofs.completeness.least_lacking_by.Given as goal
 
 abbrev pub invariant-loop-b : goal.invariant-loop-b
-invariant-loop-b g l = (l.b ≤ l.n) × ((t : Table) → Judging t g.row.W l.n l.of.parent l.of.kind l.of.source l.of.place l.at l.hb l.race → (i : ℕ) → i < l.b → ¬ Lacking (named l.selection) t i)
+invariant-loop-b g l = (l.b ≤ l.n) × ((t : Table) → Judging t g.row.W l.n l.of.parent.now l.of.kind.now l.of.source.now l.of.place.now l.at l.hb l.race → (i : ℕ) → i < l.b → ¬ Lacking (named l.selection) t i)
