@@ -6,7 +6,8 @@ use mathlib.Core.Logic.{◌⊎◌, inl, inr, ⊎_elim}
 use Prim.Native.Nat.{ℕ, ◌+◌, ◌<◌, ◌≤◌}
 use native.Mathlib.Omega.{arith}
 use native.Mathlib.Decide.{ℕ_discrete, dec_lt}
-use lib.ListN.{length, get_or}
+use lib.ListN.{length, get_or, set}
+use lib.Seq.{get_or-set_same, get_or-set_other}
 use Rattle.laws.specs.Says.{Says}
 use Rattle.laws.proofs.Says.{said, denied}
 use Rattle.laws.specs.Steps.{Rel, Walk}
@@ -14,8 +15,19 @@ use Rattle.laws.proofs.Closure.{tri}
 use Rattle.laws.proofs.Steps.{Within}
 use Rattle.laws.proofs.Walks.{walk_starts}
 use Rattle.cycle.specs.Distances.{Reaches}
-use Rattle.limits.specs.Limit.{limit}
-use Rattle.tracing.specs.Layers.{entry, Column, Nearer, Spread, StepsTo, Layer}
+use Rattle.tracing.specs.Layers.{entry, Column, Blank, Nearer, Spread, StepsTo, Layer}
+
+-- ---- a column made
+
+-- one record more is asked
+pub column_more : (R : Rel) (y : ℕ) {x : ℕ} (col : List Bool) {b : Bool} → x < length col → Says b (R x y) → Column R x y col → Column R (x + 1) y (set col x b)
+column_more R y {x} col {b} room asked before v l = by (ℕ_discrete v x)
+  where
+    by : Dec (v ≡ x) → Says (get_or (set col x b) v false) (R v y)
+    by (yes e) =
+        subst (λ (k : ℕ). Says (get_or (set col x b) k false) (R k y)) (sym e)
+        (subst (λ (s : Bool). Says s (R x y)) (sym (get_or-set_same col x b false room)) asked)
+    by (no ne) = subst (λ (s : Bool). Says s (R v y)) (sym (get_or-set_other col x v b false ne)) (before v (omega arith))
 
 -- ---- one column spread
 
@@ -24,26 +36,26 @@ data Grown (P : Type 0) (k d e : ℕ) : Type 0 where
   new : d ≡ 255 → P → e ≡ k → Grown P k d e
   same : e ≡ d → Grown P k d e
 
-module _ {P : ℕ → Type 0} {n k : ℕ} {col : List Bool} {d e : List ℕ} (few : n ≤ limit) (f : (x : ℕ) → x < n → Says (get_or col x false) (P x)) (p : Spread limit k col d e) where
+module _ {P : ℕ → Type 0} {n k : ℕ} {col : List Bool} {d e : List ℕ} (f : (x : ℕ) → x < n → Says (get_or col x false) (P x)) (p : Spread n k col d e) where
   grown : (x : ℕ) → x < n → Grown (P x) k (entry d x) (entry e x)
   grown x l =
-      elim (p.at x (omega arith)) [ Nearer.reached h c r ↦ new h (said (f x l) c) r | Nearer.had h r ↦ same r | Nearer.no_step c r ↦ same r ]
+      elim (p.at x l) [ Nearer.reached h c r ↦ new h (said (f x l) c) r | Nearer.had h r ↦ same r | Nearer.no_step c r ↦ same r ]
 
   -- whatever has a step has an entry
   grown_step : (x : ℕ) → x < n → P x → (entry e x ≡ k) ⊎ (¬ (entry d x ≡ 255) × (entry e x ≡ entry d x))
   grown_step x l q =
-      elim (p.at x (omega arith)) [ Nearer.reached h c r ↦ inl r | Nearer.had h r ↦ inr (h, r) | Nearer.no_step c r ↦ absurd (denied (f x l) c q) ]
+      elim (p.at x l) [ Nearer.reached h c r ↦ inl r | Nearer.had h r ↦ inr (h, r) | Nearer.no_step c r ↦ absurd (denied (f x l) c q) ]
 
-module _ {R : Rel} {n : ℕ} (on : Within n R) (few : n ≤ limit) where
+module _ {R : Rel} {n : ℕ} (on : Within n R) where
   one_more : {x v s j : ℕ} → R x v → Reaches R v s j → Reaches R x s (j + 1)
   one_more {v = v} r z = record { by = v ∷ z.by; walk = (r, z.walk); long = omega (arith, z.long) }
 
   -- the first layer
   pub layer_first :
-      {s : ℕ} {col : List Bool} {d e : List ℕ} → ((x : ℕ) → x < n → entry d x ≡ 255) → Column R n s col → Spread limit 1 col d e → Layer R n s 1 0 e
+      {s : ℕ} {col : List Bool} {d e : List ℕ} → Blank n d → Column R n s col → Spread n 1 col d e → Layer R n s 1 0 e
   layer_first {s} {d = d} {e = e} none f p = record {
-    low = λ x l. low x l (grown few f p x l);
-    sound = λ x l h. sound x l h (grown few f p x l);
+    low = λ x l. low x l (grown f p x l);
+    sound = λ x l h. sound x l h (grown f p x l);
     complete = complete;
     asked = λ x v l. absurd (omega arith);
   }
@@ -58,17 +70,17 @@ module _ {R : Rel} {n : ℕ} (on : Within n R) (few : n ≤ limit) where
 
       complete : (x : ℕ) (xs : List ℕ) → Walk R x xs s → length xs + 1 ≤ 1 → entry e x ≤ length xs + 1
       complete x [] w h =
-          ⊎_elim (λ q. omega arith) (λ y. absurd (y.0 (none x (on.left w)))) (grown_step few f p x (on.left w) w)
+          ⊎_elim (λ q. omega arith) (λ y. absurd (y.0 (none x (on.left w)))) (grown_step f p x (on.left w) w)
       complete x (y ∷ ys) w h = absurd (omega arith)
 
   -- one record more of layer k
   pub layer_asked :
-      {s k y : ℕ} {col : List Bool} {d e : List ℕ} → k < 254 → y < n → entry d y ≡ k → Column R n y col → Spread limit (k + 1) col d e → Layer R n s k y d
+      {s k y : ℕ} {col : List Bool} {d e : List ℕ} → k < 254 → y < n → entry d y ≡ k → Column R n y col → Spread n (k + 1) col d e → Layer R n s k y d
       → Layer R n s k (y + 1) e
   layer_asked {s} {k} {y} {d = d} {e = e} small hy at f p a = record {
-    low = λ x l. low x l (grown few f p x l);
-    sound = λ x l h. sound x l h (grown few f p x l);
-    complete = λ x xs w h. let l = walk_starts R on x xs s w in complete x xs w h (grown few f p x l);
+    low = λ x l. low x l (grown f p x l);
+    sound = λ x l h. sound x l h (grown f p x l);
+    complete = λ x xs w h. let l = walk_starts R on x xs s w in complete x xs w h (grown f p x l);
     asked = λ x v l q r. asked x v l q r (on.left r) (on.right r) (ℕ_discrete v y);
   }
     where
@@ -95,10 +107,10 @@ module _ {R : Rel} {n : ℕ} (on : Within n R) (few : n ≤ limit) where
       kept x h (same q) = omega arith
 
       asked : (x v : ℕ) → v < y + 1 → entry e v ≡ k → R x v → x < n → v < n → Dec (v ≡ y) → entry e x ≤ k + 1
-      asked x v l q r hx hv (no ne) = kept x (a.asked x v (omega arith) (was v q (grown few f p v hv)) r) (grown few f p x hx)
+      asked x v l q r hx hv (no ne) = kept x (a.asked x v (omega arith) (was v q (grown f p v hv)) r) (grown f p x hx)
       asked x v l q r hx hv (yes h) =
           ⊎_elim (λ z. omega arith) (λ (ne, z). ⊎_elim (λ m. omega arith) (λ m. absurd (ne m)) (a.low x hx))
-          (grown_step few f p x hx (subst (R x) h r))
+          (grown_step f p x hx (subst (R x) h r))
 
   pub layer_passed : {s k y : ℕ} {d : List ℕ} → ¬ (entry d y ≡ k) → Layer R n s k y d → Layer R n s k (y + 1) d
   layer_passed {k = k} {y = y} {d = d} ne a = record {

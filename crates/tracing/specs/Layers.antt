@@ -14,6 +14,10 @@ entry d x = get_or d x 0
 abbrev pub Column : Rel → ℕ → ℕ → List Bool → Type 0
 Column R n y col = (x : ℕ) → x < n → Says (get_or col x false) (R x y)
 
+-- none of the first n has an entry
+abbrev pub Blank : ℕ → List ℕ → Type 0
+Blank n d = (x : ℕ) → x < n → entry d x ≡ 255
+
 -- the entry d, or k if there is none and c says that there is a step
 pub data Nearer (d : ℕ) (c : Bool) (k r : ℕ) : Type 0 where
   reached : d ≡ 255 → c ≡ true → r ≡ k → Nearer d c k r

@@ -16,7 +16,6 @@ use asking::before::before;
 use asking::tree::elsewhere;
 use facts::{same_location, sequential, source};
 use limits::LIMIT;
-use std::array::from_fn;
 
 // "hb at one location"
 fn before_at_one_location(table: &[u8], a: usize, b: usize) -> bool
@@ -79,6 +78,10 @@ impl Steps for Sc {
     // wb before y is asked once for all records.
     fn column(table: &[u8], n: usize, y: usize) -> [bool; LIMIT] {
         let wb = steps_to::<Wb0>(table, n, y);
-        from_fn(|x| x < n && sc_step(table, n, &wb, x, y))
+        let mut col = [false; LIMIT];
+        for x in 0..n {
+            col[x] = sc_step(table, n, &wb, x, y);
+        }
+        col
     }
 }

@@ -11,7 +11,6 @@ use crate::around::owned_before;
 use crate::layers::Steps;
 use facts::{same_location, writes};
 use limits::LIMIT;
-use std::array::from_fn;
 
 // "from write w to a different write w' of one location"
 fn two_writes(table: &[u8], w: usize, v: usize) -> bool
@@ -34,6 +33,10 @@ impl Steps for Wb0 {
     }
 
     fn column(table: &[u8], n: usize, y: usize) -> [bool; LIMIT] {
-        from_fn(|x| x < n && Self::is_step(table, n, x, y))
+        let mut col = [false; LIMIT];
+        for x in 0..n {
+            col[x] = Self::is_step(table, n, x, y);
+        }
+        col
     }
 }

@@ -1,12 +1,11 @@
--- The column of steps among SC records: each record is asked.
+-- The column's loop: one record more is asked.
 use native.Mathlib.Omega.{arith}
-use Rattle.std.proofs.Common.{◌<◌, rules}
-use Rattle.laws.specs.Says.{Says}
-use Rattle.facts.proofs.Records.{few}
+use lib.ListN.{length-set}
 use Rattle.model.specs.Relations.{ScStep}
 use Rattle.table.specs.Events.{events_of}
-use Rattle.asking.proofs.Chains.{made_at}
+use Rattle.facts.proofs.Records.{few}
+use Rattle.tracing.proofs.Layering.{column_more}
 use Rattle.tracing.proofs.sequential.ScSteps.column.Goals as goal
 
-pub returns : goal.returns
-returns c x l = made_at (λ x y. x < c.args.n → Says y (ScStep (events_of c.args.table.now) x c.args.y)) c.from_fn.ensures.items (λ x y q k. search rules) x _ (omega (arith, few c.requires.table)) l
+pub loop-x-preserved : goal.loop-x-preserved
+loop-x-preserved c = (omega (arith, length-set c.loop-x.col c.loop-x.x c.sc_step.result, c.loop-x.invariant.0), column_more (ScStep (events_of c.args.table.now)) c.args.y c.loop-x.col (omega (arith, few c.requires.table, c.loop-x.invariant.0)) c.sc_step.ensures c.loop-x.invariant.1)
