@@ -1,8 +1,8 @@
 -- Laws of written text, of decimal numbers, and of a piece for each of a list.
-use mathlib.Core.Path.{◌≡◌, sym, ap, ap₂, subst, ◌∙◌}
+use mathlib.Core.Path.{◌≡◌, refl, sym, ap, ap₂, subst, ◌∙◌}
 use mathlib.Core.Bool.{Bool}
 use mathlib.Core.List.{List, [], ◌∷◌, ◌++◌, append_assoc, append-nil}
-use Prim.Native.Nat.{ℕ, zero, suc, ◌+◌, ◌/◌, ◌%◌, ◌<◌, ◌≤◌}
+use Prim.Native.Nat.{ℕ, zero, suc, ◌+◌, ◌-◌, ◌/◌, ◌%◌, ◌<◌, ◌≤◌}
 use native.Mathlib.Nat.{div-lt_self, add-zero}
 use native.Mathlib.Omega.{arith}
 use native.Mathlib.Numerals.{add-one}
@@ -23,6 +23,14 @@ written_length {before} {at} {text} h w =
 -- the same under another name of the text
 pub written_text : {before : List ℕ} {at : ℕ} {s u after : List ℕ} {r : ℕ} → s ≡ u → Written before at s after r → Written before at u after r
 written_text {before} {at} {after = after} {r = r} e w = subst (λ (x : List ℕ). Written before at x after r) e w
+
+-- a piece that was copied into the part from `at` on
+pub written_part :
+    (before piece part : List ℕ) (at : ℕ) → at + length piece ≤ length before
+    → part ≡ piece → Written before at piece (take at before ++ (part ++ drop (at + length piece - at) (drop at before))) (at + length piece)
+written_part before piece part at h e =
+    let size : at + length piece - at ≡ length piece = omega arith in
+    record { holds = ap₂ (λ (x : List ℕ) (k : ℕ). take at before ++ (x ++ drop k (drop at before))) e size ∙ rw drop-drop; next = refl }
 
 pub written_nothing : (before : List ℕ) (at : ℕ) → Written before at [] before at
 written_nothing before at = record { holds = sym (take-append-drop at before) ∙ rw add-zero; next = rw add-zero }
