@@ -56,8 +56,8 @@ fn round<S: Steps>(table: &[u8], n: usize, k: u8, dist: &mut [u8; LIMIT])
     }
 }
 
-// The fewest steps to s, in a row that has no entries yet. A function of its own: in most rounds no record has layer k, and that loop is a
-// third faster over a row that is lent.
+// The fewest steps to s, in a row that has no entries yet. A function of its own: in most rounds no record has layer k, and that loop
+// takes half the time, at best, over a row that is lent (docs/DECISIONS.md, 89).
 #[inline(never)]
 fn by_layers<S: Steps>(table: &[u8], n: usize, s: usize, dist: &mut [u8; LIMIT])
     requires { Numbered table.now n s × Blank n dist.old }
