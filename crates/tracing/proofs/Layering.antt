@@ -6,7 +6,7 @@ use mathlib.Core.Logic.{◌⊎◌, inl, inr, ⊎_elim}
 use Prim.Native.Nat.{ℕ, ◌+◌, ◌<◌, ◌≤◌}
 use native.Mathlib.Omega.{arith}
 use native.Mathlib.Decide.{ℕ_discrete, dec_lt}
-use lib.ListN.{length, get_or, set}
+use lib.ListN.{length, get_or, set, length-set}
 use lib.Seq.{get_or-set_same, get_or-set_other}
 use Rattle.laws.specs.Says.{Says}
 use Rattle.laws.proofs.Says.{said, denied}
@@ -15,19 +15,22 @@ use Rattle.laws.proofs.Closure.{tri}
 use Rattle.laws.proofs.Steps.{Within}
 use Rattle.laws.proofs.Walks.{walk_starts}
 use Rattle.cycle.specs.Distances.{Reaches}
+use Rattle.limits.specs.Limit.{limit}
 use Rattle.tracing.specs.Layers.{entry, Column, Blank, Nearer, Spread, StepsTo, Layer}
 
 -- ---- a column made
 
--- one record more is asked
-pub column_more : (R : Rel) (y : ℕ) {x : ℕ} (col : List Bool) {b : Bool} → x < length col → Says b (R x y) → Column R x y col → Column R (x + 1) y (set col x b)
-column_more R y {x} col {b} room asked before v l = by (ℕ_discrete v x)
+-- one record more is asked, and the column stays as long
+pub column_more :
+    (R : Rel) (y : ℕ) {x : ℕ} (col : List Bool) {b : Bool} → x < limit → Says b (R x y) → (length col ≡ limit) × Column R x y col
+    → (length (set col x b) ≡ limit) × Column R (x + 1) y (set col x b)
+column_more R y {x} col {b} room asked (long, before) = (length-set col x b ∙ long, λ v l. by v l (ℕ_discrete v x))
   where
-    by : Dec (v ≡ x) → Says (get_or (set col x b) v false) (R v y)
-    by (yes e) =
+    by : (v : ℕ) → v < x + 1 → Dec (v ≡ x) → Says (get_or (set col x b) v false) (R v y)
+    by v l (yes e) =
         subst (λ (k : ℕ). Says (get_or (set col x b) k false) (R k y)) (sym e)
-        (subst (λ (s : Bool). Says s (R x y)) (sym (get_or-set_same col x b false room)) asked)
-    by (no ne) = subst (λ (s : Bool). Says s (R v y)) (sym (get_or-set_other col x v b false ne)) (before v (omega arith))
+        (subst (λ (s : Bool). Says s (R x y)) (sym (get_or-set_same col x b false (omega (arith, long)))) asked)
+    by v l (no ne) = subst (λ (s : Bool). Says s (R v y)) (sym (get_or-set_other col x v b false ne)) (before v (omega arith))
 
 -- ---- one column spread
 

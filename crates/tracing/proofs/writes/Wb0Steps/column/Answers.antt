@@ -1,6 +1,5 @@
 -- The column's loop: one record more is asked.
 use native.Mathlib.Omega.{arith}
-use lib.ListN.{length-set}
 use Rattle.model.specs.Relations.{Wb0}
 use Rattle.table.specs.Events.{events_of}
 use Rattle.facts.proofs.Records.{few}
@@ -8,4 +7,5 @@ use Rattle.tracing.proofs.Layering.{column_more}
 use Rattle.tracing.proofs.writes.Wb0Steps.column.Goals as goal
 
 pub loop-x-preserved : goal.loop-x-preserved
-loop-x-preserved c = (omega (arith, length-set c.loop-x.col c.loop-x.x c.is_step.result, c.loop-x.invariant.0), column_more (Wb0 (events_of c.args.table.now)) c.args.y c.loop-x.col (omega (arith, few c.requires.table, c.loop-x.invariant.0)) c.is_step.ensures c.loop-x.invariant.1)
+loop-x-preserved c =
+    column_more (Wb0 (events_of c.args.table.now)) c.args.y c.loop-x.col (omega (arith, few c.requires.table)) c.is_step.ensures c.loop-x.invariant
