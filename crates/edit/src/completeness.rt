@@ -98,7 +98,8 @@ fn least_lacking_by<const W: usize>(
     None
 }
 
-// "for 10 the least such kept record". The rows have four words, enough for every table.
+// "for 10 the least such kept record". The rows have four words, enough for every table; their rooms are made before the columns are read, so that
+// they are cleared once (docs/DECISIONS.md, 88).
 pub fn least_lacking(table: &[u8], selection: &[u8], count: usize) -> Option<usize>
     requires { Counted table.now count × (count ≤ 8 * length selection.now) }
     ensures { LeastNumber (Lacking (named selection.now) (events_of table.now)) result }

@@ -144,6 +144,7 @@ fn find_each<const W: usize>(
 }
 
 // The same from the table's bytes, in room of its own: for each relation N rows of W words, a row more than there are records, for layers.
+// The rooms are made before the columns are read: made after a call they would be cleared twice (docs/DECISIONS.md, 88).
 fn find_within<const W: usize, const N: usize>(
     table: &[u8],
     n: usize,
